@@ -43,7 +43,6 @@ import functools
 import os
 import re
 import statistics
-import subprocess
 import sys
 import time
 
@@ -86,18 +85,10 @@ class Run:
         return self.seconds < other.seconds
 
 
-def run(command):
-    """Returns the status of a run and what it writes to both streams, or None if it was ended by the cap."""
-    try:
-        ran = subprocess.run(command, stdin=subprocess.DEVNULL, stdout=subprocess.PIPE, stderr=subprocess.PIPE, timeout=CAP, check=False)
-    except subprocess.TimeoutExpired:
-        return None
-    return ran.returncode, ran.stdout.decode("ascii", "replace"), ran.stderr.decode("ascii", "replace")
-
-
-def run_ours(program, ties, file, workers, with_tables, limit):
-    """Returns one run of BENCH_ENGINE in this order, or None if it was ended by the cap."""
-    ran = run([program, file, str(workers), str(RING), str(TABLE if with_tables else 0), str(limit), ties])
+def run_ours(program, ties, file, workers, with_tables, limit, ring=RING):
+    """Returns one run of BENCH_ENGINE in this order, with links for `ring` messages, or None if it was ended by the
+    cap."""
+    ran = measuring.run_within([program, file, str(workers), str(ring), str(TABLE if with_tables else 0), str(limit), ties], CAP)
     if ran is None:
         return None
     status, output, errors = ran
@@ -109,7 +100,8 @@ def run_ours(program, ties, file, workers, with_tables, limit):
 
 def run_baseline(program, file, workers, with_tables, seconds):
     """Returns one run of the baseline, or None if it was ended by the cap."""
-    ran = run([program, "hda", file, "--workers", str(workers), "--quiet", "--time", str(seconds), *([] if with_tables else ["--blind"])])
+    command = [program, "hda", file, "--workers", str(workers), "--quiet", "--time", str(seconds), *([] if with_tables else ["--blind"])]
+    ran = measuring.run_within(command, CAP)
     if ran is None:
         return None
     status, output, errors = ran

@@ -100,6 +100,16 @@ def run_capped(command, reports=False):
     return (*found, report) if reports else found
 
 
+def run_within(command, seconds):
+    """Runs a command once. Returns its status and what it writes to both streams, or None if it takes more than these
+    seconds."""
+    try:
+        ran = subprocess.run(command, stdin=subprocess.DEVNULL, stdout=subprocess.PIPE, stderr=subprocess.PIPE, timeout=seconds, check=False)
+    except subprocess.TimeoutExpired:
+        return None
+    return ran.returncode, ran.stdout.decode("ascii", "replace"), ran.stderr.decode("ascii", "replace")
+
+
 def measure(name, program, command, script, files, size, answer):
     """Runs a command, or a program without commands, RUNS times on the files that a generator makes for a size.
 

@@ -49,7 +49,7 @@ Beside = collections.namedtuple("Beside", "expanded before tables")
 
 def run_of(program, file, tables, ties):
     """Returns what a run answered and reported; None if it was ended by the cap."""
-    status, output, seconds, _, report = measuring.run_capped([program, file, "1", tables, ties], reports=True)
+    status, output, seconds, _, report = measuring.run_capped([program, file, "1", tables, ties, "on"], reports=True)
     if status is None:
         return None
     rows = [tuple(map(int, it.groups())) for it in STAGE.finditer(report)]

@@ -172,6 +172,11 @@ def number_of(word, most):
     return int(word) if re.fullmatch(rb"0|[1-9][0-9]*", word) and int(word) <= most else None
 
 
+def is_misnumbered(classes):
+    """Returns whether a class neither occurs earlier nor is the least number that does not."""
+    return any(it > max(classes[:place], default=-1) + 1 for place, it in enumerate(classes))
+
+
 class CertificateReader:
     """The lines of a certificate. The order of faults on one line is F53, F51, F52, F55, F57."""
 
@@ -262,13 +267,27 @@ class CertificateReader:
             variable, _ = self.number(words[0], MAX_WORD), self.number(words[1], MAX_WORD, 1)
             classes = self.numbers(words[2:], MAX_WORD)
             self.increase([it for it, _ in found[-1:]] + [variable])
-            if any(it > max(classes[:place], default=-1) + 1 for place, it in enumerate(classes)):
+            if is_misnumbered(classes):
                 raise self.fault("F57 Classes")
             found.append((variable, classes))
         return found
 
+    def class_rows(self):
+        """Reads the classes of the values of all variables of a task: two values of some variable share a class."""
+        count, found, shared = self.keyword(b"classes", MAX_WORD, 1), [], False
+        for number in range(count):
+            words = self.words()
+            self.counted(words, 0, 1)
+            self.number(words[0], MAX_WORD, 1)
+            classes = self.numbers(words[1:], MAX_WORD)
+            shared = shared or len(set(classes)) < len(classes)
+            if is_misnumbered(classes) or number == count - 1 and not shared:
+                raise self.fault("F57 Classes")
+            found.append(classes)
+        return found
+
     def table(self):
-        has_rows = self.version == 2 and self.text[self.at:self.at + 7] in (b"domain ", b"domain\n")
+        has_rows = self.version >= 2 and self.text[self.at:self.at + 7] in (b"domain ", b"domain\n")
         mapping = self.rows() if has_rows else self.pattern()
         count, rest = self.list(b"shares", 2)
         self.number(count, MAX_WORD)
@@ -290,12 +309,12 @@ class CertificateReader:
 
 
 class Certificate:
-    """A certificate's kind, bound, columns (lists of tables: variables with classes or None, shares, values) and closed
-    states with their costs."""
+    """A certificate's kind, bound, classes of the values of the task's variables (None before version 3), columns (lists
+    of tables: variables with classes or None, shares, values) and closed states with their costs."""
 
     def __init__(self, text):
         it = CertificateReader(text)
-        it.version = {b"optplan-cert 1": 1, b"optplan-cert 2": 2}.get(it.line())
+        it.version = {b"optplan-cert 1": 1, b"optplan-cert 2": 2, b"optplan-cert 3": 3}.get(it.line())
         if it.version is None:
             raise Fault("F50 Header cert")
         self.kind = it.line()
@@ -308,6 +327,7 @@ class Certificate:
                 it.atom()
             for _ in range(it.keyword(b"vars", MAX_WORD)):
                 it.variable(atoms)
+        self.classes = it.class_rows() if it.version == 3 else None
         self.columns = [[it.table() for _ in range(it.keyword(b"column", 64, 1))] for _ in range(it.keyword(b"columns", 64))]
         self.closed = it.closed()
         if it.line() != b"end":
@@ -336,6 +356,19 @@ def abstract_states(ranges):
     return [it[::-1] for it in itertools.product(*(range(values) for values in reversed(ranges)))]
 
 
+class ReducedTask:
+    """A task whose values are the classes of another task's values, without the variables that have one class."""
+
+    def __init__(self, task, rows):
+        stay = [variable for variable, row in enumerate(rows) if max(row) > 0]
+        numbers = {variable: number for number, variable in enumerate(stay)}
+        facts = lambda them: [(numbers[variable], rows[variable][value]) for variable, value in them if variable in numbers]
+        self.ranges = [max(rows[it]) + 1 for it in stay]
+        self.initial = tuple(rows[it][task.initial[it]] for it in stay)
+        self.goal = facts(task.goal)
+        self.operators = [(facts(conditions), facts(changes), cost) for conditions, changes, cost in task.operators]
+
+
 class Check:
     """The first clause of a certificate that fails for a task, with its place, or None."""
 
@@ -349,7 +382,17 @@ class Check:
         return "accepted unsolvable" if self.certificate.bound == math.inf else f"accepted {self.certificate.bound}"
 
     def clauses(self):
-        return [self.shares(), self.tables(), self.states(), self.start(), self.goals(), self.successors()]
+        return [self.rows(), self.shares(), self.tables(), self.states(), self.start(), self.goals(), self.successors()]
+
+    def rows(self):
+        """Tests the classes of version 3. If they fit the task, the other clauses are about the reduced one."""
+        rows, ranges = self.certificate.classes, self.task.ranges
+        if rows is None:
+            return
+        for number in range(max(len(rows), len(ranges))):
+            if number >= min(len(rows), len(ranges)) or len(rows[number]) != ranges[number]:
+                yield f"C0 var {number}"
+        self.task = ReducedTask(self.task, rows)
 
     def shares(self):
         for number, column in enumerate(self.certificate.columns):

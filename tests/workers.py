@@ -13,8 +13,8 @@ import os
 import sys
 
 from program import checked, validated, wanted
-from test_planner import solved
-from test_threads import TASKS
+from planning import solved
+from test_search_threads import TASKS
 from texts import ROAD_DOMAIN, ROAD_TO_NOWHERE
 
 WORKERS = range(1, 65)

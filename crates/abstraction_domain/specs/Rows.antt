@@ -1,5 +1,5 @@
 -- Classes of the values of a variable (Hernádvölgyi and Holte 2000; Kreft, Büchner, Sievers and Helmert 2023).
-use Rattle.std.specs.Prelude.{ℕ, ◌+◌, ◌<◌, max, ◌⊎◌, Bool, true, ◌&&◌, nat_le, List, [], ◌∷◌, length, take, slice_index, Contains}
+use Rattle.std.specs.Prelude.{ℕ, ◌+◌, ◌<◌, max, ◌⊎◌, Bool, true, ◌&&◌, nat_le, nat_lt, List, [], ◌∷◌, length, map, take, slice_index, Contains}
 
 -- a variable, and the class of each of its values
 pub record Row : Type 0 where
@@ -10,6 +10,14 @@ pub record Row : Type 0 where
 abbrev pub class_count : List ℕ → ℕ
 class_count [] = 0
 class_count (c ∷ cs) = max (c + 1) (class_count cs)
+
+-- whether two values of the variable share a class: there are fewer classes than values
+abbrev pub shares_class : List ℕ → Bool
+shares_class classes = nat_lt (class_count classes) (length classes)
+
+-- the classes in the rows
+abbrev pub classes_in : List Row → List (List ℕ)
+classes_in rows = map (λ r. r.classes) rows
 
 -- the least number that is not in the list
 pub record IsLeastAbsent (xs : List ℕ) (c : ℕ) : Type 0 where

@@ -11,7 +11,7 @@ ghost use Rattle.abstraction_domain.specs.Domains as spec;
 ghost use Rattle.abstraction_domain.specs.Domains.{variables, class_counts, counts_in, class_fact, class_facts, IsFit, IsFaultOf};
 
 use crate::fault::DomainFault;
-use crate::row::ClassRow;
+use crate::row::{ClassRow, copied_rows};
 use abstraction::{Abstraction, Digit, is_on_any};
 use fdr::{Fact, FdrTask};
 use std::alloc::{AllocError, Global};
@@ -123,19 +123,15 @@ fn digits_of(
     Ok((digits, size))
 }
 
-/// Returns copies of the rows, and the list of their variables.
-fn copies_of(alloc: Global, rows: &[ClassRow]) -> Result<(Vec<ClassRow>, Vec<usize>), AllocError>
-    ensures rows { IfOk result (λ made. made.0.items ≡ rows.now) }
-    ensures variables { IfOk result (λ made. made.1.items ≡ variables rows.now) }
+/// Returns the list of the rows' variables.
+fn variables_of(alloc: Global, rows: &[ClassRow]) -> Result<Vec<usize>, AllocError>
+    ensures { IfOk result (λ listed. listed.items ≡ variables rows.now) }
 {
-    let mut copies = Vec::new(alloc);
-    let mut variables = Vec::new(alloc);
-    for place in 0..rows.len() {
-        let row = rows[place].copied(alloc)?;
-        variables.push(row.variable())?;
-        copies.push(row)?;
+    let mut listed = Vec::with_capacity(alloc, rows.len())?;
+    for row in rows {
+        listed.push(row.variable())?;
     }
-    Ok((copies, variables))
+    Ok(listed)
 }
 
 /// Returns the index of a variable in strictly increasing variables, if it is there.
@@ -211,7 +207,8 @@ impl<'a> DomainAbstraction<'a> {
         check_rows(task, rows)?;
         task.recall();
         let (digits, size) = digits_of(alloc, task, rows)?;
-        let (rows, variables) = copies_of(alloc, rows)?;
+        let rows = copied_rows(alloc, rows)?;
+        let variables = variables_of(alloc, &rows)?;
         Ok(DomainAbstraction {
             task,
             rows,

@@ -9,4 +9,4 @@ mod row;
 pub use domain::{ClassDigit, DomainAbstraction, are_increasing, class_index};
 pub use fault::DomainFault;
 pub use laws::{domain_is_abstraction, identity_rows_give_projection, numbered_by_test};
-pub use row::{ClassFault, ClassRow};
+pub use row::{ClassFault, ClassRow, copied_rows};

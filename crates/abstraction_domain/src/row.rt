@@ -56,6 +56,17 @@ fn counted(classes: &[u32]) -> Result<usize, usize>
     Ok(count)
 }
 
+/// Returns copies of the rows.
+pub fn copied_rows(alloc: Global, rows: &[ClassRow]) -> Result<Vec<ClassRow>, AllocError>
+    ensures { IfOk result (λ copies. copies.items ≡ rows.now) }
+{
+    let mut copies = Vec::with_capacity(alloc, rows.len())?;
+    for row in rows {
+        copies.push(row.copied(alloc)?)?;
+    }
+    Ok(copies)
+}
+
 impl ClassRow {
     /// Returns the row with the classes of the values of a variable. It may be empty.
     ///

@@ -81,6 +81,9 @@ pub(crate) struct Counting<'a, R: Clock> {
     /// The number of the stage; 0 before the first, and in a search without stages.
     stage: AtomicU64,
     rows: [Row; ROWS],
+    /// The numbers of variables and of operators that a reduction leaves out.
+    variables: AtomicU64,
+    operators: AtomicU64,
 }
 
 impl<'a, R: Clock> Counting<'a, R> {
@@ -91,6 +94,8 @@ impl<'a, R: Clock> Counting<'a, R> {
             start: Instant::now(rt).ok(),
             stage: AtomicU64::new(0),
             rows: [Row::new(), Row::new(), Row::new(), Row::new(), Row::new()],
+            variables: AtomicU64::new(0),
+            operators: AtomicU64::new(0),
         }
     }
 
@@ -103,9 +108,14 @@ impl<'a, R: Clock> Counting<'a, R> {
         u64::try_from(elapsed.as_micros()).unwrap_or(u64::MAX)
     }
 
-    /// Returns a line for each stage of which something was measured, with microseconds since the search began.
+    /// Returns a line on what is left out, and one for each stage of which something was measured, with microseconds
+    /// since the search began.
     pub(crate) fn figures(&self, alloc: Global) -> Result<String, AllocError> {
-        let mut text = String::new(alloc);
+        let variables = self.variables.load(Ordering::Relaxed);
+        let operators = self.operators.load(Ordering::Relaxed);
+        let mut text = format!(in alloc;
+            "left out {variables} variables, {operators} operators\n"
+        )?;
         for stage in 0..ROWS {
             if let Some(row) = self.rows.get(stage) {
                 let line = row.line(alloc, stage)?;
@@ -135,6 +145,11 @@ impl<'a, R: Clock> Gate for Counting<'a, R> {
 
     fn never_limits(&self) -> bool {
         true
+    }
+
+    fn task_reduced(&self, variables: usize, operators: usize) {
+        self.variables.store(variables as u64, Ordering::Relaxed);
+        self.operators.store(operators as u64, Ordering::Relaxed);
     }
 
     fn stage_begins(&self, stage: usize, tables: usize, abstract_states: usize) {

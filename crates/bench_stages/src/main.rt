@@ -1,5 +1,5 @@
-//! Searches a task with threads, for the benchmark of stages: `bench_stages TASK WORKERS TABLES TIES`, with tables
-//! `goal` or `staged` and the order `fresh`, `shallow` or `deep`.
+//! Searches a task with threads, for the benchmarks of stages and of the reduction: `bench_stages TASK WORKERS TABLES
+//! TIES REDUCE`, with tables `goal` or `staged`, the order `fresh`, `shallow` or `deep`, and a reduction `on` or `off`.
 #![tactic(auto)]
 
 mod counting;
@@ -61,16 +61,26 @@ fn tables_of(name: &str) -> Option<Tables> {
     }
 }
 
-/// Returns the options that the last three arguments request.
-fn options_of(workers: &str, tables: &str, ties: &str) -> Option<Options> {
+/// Returns whether a reduction of this name is one.
+fn reduction_of(name: &str) -> Option<bool> {
+    match name {
+        "on" => Some(true),
+        "off" => Some(false),
+        _ => None,
+    }
+}
+
+/// Returns the options that the last four arguments request.
+fn options_of(workers: &str, tables: &str, ties: &str, reduction: &str) -> Option<Options> {
     let workers = workers.parse::<usize>().ok()?;
     let tables = tables_of(tables)?;
     let ties = ties_of(ties)?;
+    let reduction = reduction_of(reduction)?;
     if workers < 1 || workers > MAX_WORKERS {
         return None;
     }
-    let options = Options::new().with_workers(workers);
-    Some(options.with_tables(tables).with_ties(ties))
+    let options = Options::new().with_workers(workers).with_tables(tables);
+    Some(options.with_ties(ties).with_reduction(reduction))
 }
 
 /// Searches as the arguments request, and returns whether it printed what it found.
@@ -80,10 +90,15 @@ fn put_answer<D: Device, R: Threads + Wait + Clock + Sync>(
     device: &mut D,
     words: &[String],
 ) -> bool {
-    let [_, task, workers, tables, ties] = words else {
+    let [_, task, workers, tables, ties, reduction] = words else {
         return false;
     };
-    let Some(options) = options_of(workers.as_str(), tables.as_str(), ties.as_str()) else {
+    let Some(options) = options_of(
+        workers.as_str(),
+        tables.as_str(),
+        ties.as_str(),
+        reduction.as_str(),
+    ) else {
         return false;
     };
     let Some(task) = task_in(alloc, device, task.as_str()) else {

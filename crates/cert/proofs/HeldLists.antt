@@ -21,7 +21,7 @@ use Rattle.cert_value.specs.declared.table.Share.{Share}
 use Rattle.cert_value.specs.Certificates.{Kind, Table, Entry, CertificateValue}
 use Rattle.cert_value.specs.Lawful.{IsShare, IsTable}
 use Rattle.cert_value.specs.Lawful as text
-use Rattle.checker_clauses.specs.declared.violation.Violation.TheVariants.{Shares, TableForm, GoalValue, Fall, ClosedState, Start, ClosedGoal, Successor}
+use Rattle.checker_clauses.specs.declared.violation.Violation.TheVariants.{Classes, Shares, TableForm, GoalValue, Fall, ClosedState, Start, ClosedGoal, Successor}
 use Rattle.checker_clauses.specs.Clauses.{abstraction_of, share_of, value_of, table_of, heuristic_of, lists, column_lists, is_within_cost, has_form, is_zero, is_goal_at_zero, falls_within_share, is_state, is_behind, is_listed, reaches_bound, is_covered, is_dear_if_goal, covers_successor}
 use Rattle.checker_clauses.specs.ClosedLists.{IsListed, IsCovered, CoversSuccessors, IsFinished}
 use Rattle.checker_clauses.specs.Violations.{table_at, IsHeld}
@@ -152,7 +152,7 @@ module _ (task : FiniteDomainTask) where
 
     module _ (kind : Kind) (bound : Distance) (closed : List Entry) (finished : IsFinished task (heuristic_of task columns) bound closed) (rising : IsRising closed) where
       abbrev made : CertificateValue
-      made = record { version = Two; kind = kind; bound = bound; columns = columns; closed = closed }
+      made = record { version = Two; kind = kind; bound = bound; classes = []; columns = columns; closed = closed }
 
       -- ---- closed states
 
@@ -179,6 +179,7 @@ module _ (task : FiniteDomainTask) where
       state_at i (Some e) at is bad = not_both _ (and_from _ _ (state_test (ranges task) e.state is.as_long is.in_range) (rising i e at)) bad
 
       pub held : IsHeld task made
+      held (Classes v) bad = omega (arith, bad.0)
       held (Shares i o) bad =
           none_found IsHeldColumn (λ column. is_within_cost task column o ≡ false) (slice_get columns i)
           (held_column_at i) (λ column is. not_both _ (within_cost column is.0 is.1.tables o)) bad
@@ -201,6 +202,6 @@ module _ (task : FiniteDomainTask) where
 
 -- the same where it is only known that the columns are a cost partitioning
 pub merely_held : (task : FiniteDomainTask) (kind : Kind) (bound : Distance) (columns : List (List Table)) (closed : List Entry) → ∥ AreCostPartitioned task columns ∥₁
-    → IsFinished task (heuristic_of task columns) bound closed → IsRising closed → IsHeld task (record { version = Two; kind = kind; bound = bound; columns = columns; closed = closed })
+    → IsFinished task (heuristic_of task columns) bound closed → IsRising closed → IsHeld task (record { version = Two; kind = kind; bound = bound; classes = []; columns = columns; closed = closed })
 merely_held task kind bound columns closed divided finished rising =
-    ∥∥₁_elim divided (held_prop task (record { version = Two; kind = kind; bound = bound; columns = columns; closed = closed })) (λ known. held task columns known kind bound closed finished rising)
+    ∥∥₁_elim divided (held_prop task (record { version = Two; kind = kind; bound = bound; classes = []; columns = columns; closed = closed })) (λ known. held task columns known kind bound closed finished rising)

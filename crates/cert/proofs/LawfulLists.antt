@@ -1,5 +1,5 @@
 -- A closed list of states within the limits of the format, with a cost partitioning, has a text.
-use Rattle.std.proofs.Common.{◌≡◌, ℕ, zero, suc, ◌<◌, ◌≤◌, ◌^◌, false, List, [], ◌∷◌, length, map, arith, ltb-false}
+use Rattle.std.proofs.Common.{◌≡◌, ℕ, zero, suc, ◌<◌, ◌≤◌, ◌^◌, false, List, [], ◌∷◌, length, map, refl, arith, ltb-false}
 use Rattle.std.specs.Prelude.{All, slice_index}
 use Rattle.std.specs.List.{AllByRecursion}
 use Rattle.std.proofs.Math.Logic.{∥∥₁_elim}
@@ -47,10 +47,11 @@ module _ (task : FiniteDomainTask) (limits : IsWithinLimits task) where
   )
 
   pub has_text : (kind : Kind) (bound : Distance) (columns : List (List Table)) (closed : List Entry) → ∥ AreCostPartitioned task columns ∥₁ → IsLawfulKind kind
-      → IsWithin (2 ^ 62) bound → All IsStateOf closed → All IsCheap closed → length closed < 2 ^ 32 → IsLawful (record { version = Two; kind = kind; bound = bound; columns = columns; closed = closed })
+      → IsWithin (2 ^ 62) bound → All IsStateOf closed → All IsCheap closed → length closed < 2 ^ 32 → IsLawful (record { version = Two; kind = kind; bound = bound; classes = []; columns = columns; closed = closed })
   has_text kind bound columns closed divided lawful small states cheap few = record {
     kind = lawful;
     bound = small;
+    classes = refl;
     columns = ∥∥₁_elim divided (columns_prop Two columns) (λ known. known.lawful);
     closed = record { few = few; width = length (ranges task); each = entries_lawful closed states cheap };
   }

@@ -6,3 +6,5 @@ pub mod Listing
 pub mod Copies
 pub mod ExpandedLists
 pub mod Searches
+mod KeyBits
+mod KeyOrder

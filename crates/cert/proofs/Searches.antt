@@ -1,5 +1,5 @@
 -- What the owners of a search have expanded, at its end, is a closed list.
-use Rattle.std.proofs.Common.{◌≡◌, ℕ, zero, suc, ◌+◌, ◌<◌, ◌≤◌, ◌^◌, List, [], ◌∷◌, ◌++◌, length, map, get_or, take, refl, sym, ap, subst, ◌∙◌, arith, append_assoc}
+use Rattle.std.proofs.Common.{◌≡◌, ℕ, zero, suc, ◌+◌, ◌<◌, ◌≤◌, ◌^◌, List, [], ◌∷◌, ◌++◌, length, get_or, take, refl, sym, ap, subst, ◌∙◌, arith, append_assoc}
 use Rattle.std.specs.Prelude.{All}
 use Rattle.std.specs.List.Sorted.{IsPermutation}
 use Rattle.std.proofs.Math.Logic.{∥∥₁_elim}
@@ -176,7 +176,7 @@ module _ {S : Type 0} (owner : S → List ℕ → ℕ → ℕ) (e : EndOf S) whe
 
       -- the certificate is made of the columns, the lower bound and the closed states in order
       pub record IsMade (kind : Kind) (closed : List Entry) (made : CertificateValue) : Type 0 where
-        pub is : made ≡ record { version = Two; kind = kind; bound = lower_bound owner e; columns = e.space.columns; closed = closed }
+        pub is : made ≡ record { version = Two; kind = kind; bound = lower_bound owner e; classes = []; columns = e.space.columns; closed = closed }
         pub moved : IsPermutation (closed_in e.owners) closed
         pub order : IsInOrder closed
 
@@ -192,7 +192,7 @@ module _ {S : Type 0} (owner : S → List ℕ → ℕ → ℕ) (e : EndOf S) whe
           bound = lower_bound owner e
 
           abbrev whole : CertificateValue
-          whole = record { version = Two; kind = kind; bound = bound; columns = e.space.columns; closed = closed }
+          whole = record { version = Two; kind = kind; bound = bound; classes = []; columns = e.space.columns; closed = closed }
 
           below_best : bound ≤ᵈ least_best e
           below_best =

@@ -1,6 +1,6 @@
 //! Laws of certificates that are made from closed lists, for every task.
 
-ghost use Rattle.std.specs.Prelude.{◌≡◌, ℕ, ◌<◌, ◌≤◌, ◌^◌, List, length, All};
+ghost use Rattle.std.specs.Prelude.{◌≡◌, ℕ, ◌<◌, ◌≤◌, ◌^◌, List, [], length, All};
 ghost use Rattle.std.specs.List.Sorted.{IsPermutation};
 ghost use Rattle.cost.specs.Distances.{Distance, IsWithin};
 ghost use Rattle.fdr.specs.Tasks.{FiniteDomainTask, ranges, IsState, IsWithinLimits};
@@ -20,7 +20,7 @@ ghost use Rattle.cert.specs.Orders.{IsInOrder, IsRising};
 pub fn finished_list_is_held()
     ensures held { (task : FiniteDomainTask) (kind : Kind) (bound : Distance) (columns : List (List Table)) (closed : List Entry) →
         ∥ AreCostPartitioned task columns ∥₁ → IsFinished task (heuristic_of task columns) bound closed → IsRising closed →
-        IsHeld task (record { version = Two; kind = kind; bound = bound; columns = columns; closed = closed }) }
+        IsHeld task (record { version = Two; kind = kind; bound = bound; classes = []; columns = columns; closed = closed }) }
     ensures proposition { (task : FiniteDomainTask) (c : CertificateValue) → IsProp (IsHeld task c) }
 {}
 
@@ -30,7 +30,7 @@ pub fn finished_list_has_text()
     ensures { (task : FiniteDomainTask) (kind : Kind) (bound : Distance) (columns : List (List Table)) (closed : List Entry) →
         IsWithinLimits task → ∥ AreCostPartitioned task columns ∥₁ → IsLawfulKind kind → IsWithin (2 ^ 62) bound →
         All (λ e. IsState (ranges task) e.state) closed → All (λ e. e.cost ≤ 2 ^ 62) closed → length closed < 2 ^ 32 →
-        IsLawful (record { version = Two; kind = kind; bound = bound; columns = columns; closed = closed }) }
+        IsLawful (record { version = Two; kind = kind; bound = bound; classes = []; columns = columns; closed = closed }) }
 {}
 
 /// Proves that any permutation of a finished closed list is finished, and any permutation of a closed list without

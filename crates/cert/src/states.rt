@@ -19,6 +19,21 @@ pub(crate) struct ExpandedStates {
 }
 
 impl ExpandedStates {
+    /// Reserves memory for all states of an owner. A refusal is not an error, since fewer states may be expanded: the
+    /// lists then grow as states are appended.
+    fn reserve_owner<S: Spread + Drop, F: StateForm + Drop>(
+        &mut self,
+        owner: &Owner<'_, S, F>,
+        width: usize,
+    )
+        ensures costs { self.new.costs.items ≡ self.old.costs.items }
+        ensures values { self.new.values.items ≡ self.old.values.items }
+    {
+        let count = owner.len();
+        let _ = self.costs.reserve(count);
+        let _ = self.values.reserve(count.saturating_mul(width));
+    }
+
     /// Appends the states that an owner has expanded at their present ranks; `state` is a buffer.
     fn push_owner<S: Spread + Drop, F: StateForm + Drop>(
         &mut self,
@@ -30,6 +45,7 @@ impl ExpandedStates {
         ensures states { OnOk result (listed (length state.old) self.new ≡ listed (length state.old) self.old ++ expanded_of owner.now.nodes) }
         ensures long { OnOk result (IsLong (length state.old) self.new) }
     {
+        self.reserve_owner(owner, state.len());
         for index in 0..owner.len() {
             let entry = owner.entry(index);
             if entry.expanded {

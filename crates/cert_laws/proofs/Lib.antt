@@ -5,3 +5,4 @@ pub mod WholeTexts
 pub mod Kept
 pub mod Texts
 pub mod Promises
+pub mod Repeats

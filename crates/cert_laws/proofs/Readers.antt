@@ -1,17 +1,18 @@
 -- Each reader of a part of the text keeps every frame.
 use Rattle.std.proofs.Common.{◌≡◌, ℕ, ◌+◌, ◌^◌, ◌⊎◌, inl, inr, Bool, true, false, cond, List, [], ◌∷◌, ◌++◌, length, map, Option, Some, None, refl, sym, Result, Ok, Err}
-use Rattle.std.specs.Prelude.{codes, ◌&&◌, ◌==◌, not, nat_le}
+use Rattle.std.specs.Prelude.{codes, ◌&&◌, ◌||◌, ◌==◌, not, nat_le}
 use Rattle.std.specs.Str.{bytes_eq}
 use Rattle.std.specs.List.{list_all}
 use Rattle.cost.specs.Distances.{Distance}
 use Rattle.cert_text.specs.declared.fault.CertFault.{CertFault}
-use Rattle.abstraction_domain.specs.Rows.{Row, are_numbered}
+use Rattle.abstraction_domain.specs.Rows.{Row, are_numbered, shares_class}
 use Rattle.abstraction_mapping.specs.Mappings.{Mapping, Pattern, Domains}
 use Rattle.cert_value.specs.declared.certificate.Version.{Version}
+use Rattle.cert_value.specs.declared.certificate.Version.TheVariants.{One, Two, Three}
 use Rattle.cert_value.specs.declared.table.Share.{Share}
 use Rattle.cert_value.specs.Certificates.{FiniteDomain, Planning, Table, Entry, width_of}
 use Rattle.cert_text.specs.Pieces.{pieces}
-use Rattle.cert_text.specs.Reading.{◌>>=◌, Remaining, line_at, repeated, number, number_in, numbers_in, distance_in, distances_in, shares_in, is_increasing, filled, formed, numbered, ordered, fixed_at, second_of, count_at, agrees, counted_of, headed_of, kind_at, bound_of, bound_at, is_atom_word, atom_of, atom_at, behind, atoms_at, variable_of, variable_at, variables_at, parts_at, pattern_of, next_variable, row_of, row_at, row_step, is_domain, mapping_behind, mapping_at, rows_at, shares_of, values_of, table_at, column_at, columns_at, has_width, entry_numbers, entry_of, entry_at, entry_step, closed_at}
+use Rattle.cert_text.specs.Reading.{◌>>=◌, Remaining, line_at, repeated, number, number_in, numbers_in, distance_in, distances_in, shares_in, is_increasing, filled, formed, numbered, ordered, fixed_at, second_of, count_at, agrees, counted_of, headed_of, kind_at, bound_of, bound_at, is_atom_word, atom_of, atom_at, behind, atoms_at, variable_of, variable_at, variables_at, parts_at, sized_of, classes_of, must_share, sharing_of, sharing_at, classes_step, all_classes_at, classes_at, pattern_of, next_variable, row_of, row_at, row_step, is_domain, mapping_behind, mapping_at, rows_at, shares_of, values_of, table_at, column_at, columns_at, has_width, entry_numbers, entry_of, entry_at, entry_step, closed_at}
 use Rattle.line_theory.proofs.Readings.{given, then_then}
 use Rattle.line_theory.proofs.Frames.{Frame, Pairs, Rests, pure_pair, pure_rest, then_pair, OnLine, on_then}
 use Rattle.line_theory.proofs.Lines.{Single, single_line, single_tested, reads_single, reads_tested}
@@ -50,6 +51,21 @@ on_variable atoms m ws = on_then Cert m (counted_of m false ws) _ (on_counted m 
     on_then Cert m (numbered m (number_in 1 (2 ^ 32) form.count)) _ (on_numbered m (number_in 1 (2 ^ 32) form.count)) (λ count.
     on_then Cert m (numbered m (numbers_in atoms form.words)) _ (on_numbered m (numbers_in atoms form.words)) (λ numbers.
     on_ordered m (is_increasing numbers) (record { has_none_value = flag == 1; atoms = numbers })))))
+
+on_sized : (m : ℕ) (ws : List (List ℕ)) → OnLine Cert m (sized_of m ws)
+on_sized m [] = refl
+on_sized m (c ∷ ws) = on_formed m (has_width (number c) (filled (c ∷ ws))) (c, ws)
+
+on_classes : (m : ℕ) (ws : List (List ℕ)) → OnLine Cert m (classes_of m ws)
+unfolding classes_of
+on_classes m ws = on_then Cert m (sized_of m ws) _ (on_sized m ws) (λ form.
+    on_then Cert m (numbered m (number_in 1 (2 ^ 32) form.0)) _ (on_numbered m (number_in 1 (2 ^ 32) form.0)) (λ count.
+    on_then Cert m (numbered m (numbers_in (2 ^ 32) form.1)) _ (on_numbered m (numbers_in (2 ^ 32) form.1)) (λ classes.
+    on_classified m (are_numbered classes) classes)))
+
+on_sharing : (must : Bool) (m : ℕ) (ws : List (List ℕ)) → OnLine Cert m (sharing_of must m ws)
+unfolding sharing_of
+on_sharing must m ws = on_then Cert m (classes_of m ws) _ (on_classes m ws) (λ classes. on_classified m (not must || shares_class classes) classes)
 
 on_pattern : (m : ℕ) (ws : List (List ℕ)) → OnLine Cert m (pattern_of m ws)
 unfolding pattern_of
@@ -164,6 +180,24 @@ pub parts : (F : Frame Cert) (planning : Bool) → Pairs F (parts_at planning)
 unfolding parts_at
 parts F false = pure_pair F FiniteDomain
 parts F true = then_pair F (atoms F) (λ xs. then_pair F (variables F (length xs)) (λ vs. pure_pair F (Planning xs vs)))
+
+sharing : (F : Frame Cert) (must : Bool) → Pairs F (sharing_at must)
+unfolding sharing_at
+sharing F must = reads_single F (sharing_at must) (of_words (sharing_of must) (on_sharing must))
+
+one_class_row : (F : Frame Cert) (count : ℕ) (rows : List (List ℕ)) → Pairs F (classes_step count rows)
+unfolding classes_step
+one_class_row F count rows = then_pair F (sharing F (must_share count rows)) (λ classes. pure_pair F (rows ++ classes ∷ []))
+
+all_classes : (F : Frame Cert) → Pairs F all_classes_at
+unfolding all_classes_at
+all_classes F = then_pair F (count F (codes "classes") 1 (2 ^ 32)) (λ n. repeated_reads F (classes_step n) (one_class_row F n) n [])
+
+pub classes : (F : Frame Cert) (version : Version) → Pairs F (classes_at version)
+unfolding classes_at
+classes F One = pure_pair F []
+classes F Two = pure_pair F []
+classes F Three = all_classes F
 
 row : (F : Frame Cert) (least : ℕ) → Pairs F (row_at least)
 unfolding row_at

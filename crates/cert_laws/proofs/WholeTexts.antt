@@ -3,15 +3,15 @@ use Rattle.std.proofs.Common.{◌⊎◌, inl, inr, ◌≡◌, ℕ, Bool, true, f
 use Rattle.std.specs.Prelude.{codes}
 use Rattle.std.specs.Str.{bytes_eq}
 use Rattle.cert_value.specs.declared.certificate.Version.{Version}
-use Rattle.cert_value.specs.declared.certificate.Version.TheVariants.{One, Two}
+use Rattle.cert_value.specs.declared.certificate.Version.TheVariants.{One, Two, Three}
 use Rattle.cert_value.specs.Certificates.{CertificateValue}
 use Rattle.cert_text.specs.declared.fault.CertFault.{CertFault}
 use Rattle.cert_text.specs.declared.fault.CertFault.TheVariants as fault
-use Rattle.cert_text.specs.Reading.{◌>>=◌, Remaining, first_of, line_at, fixed_at, header_at, kind_at, bound_at, parts_at, columns_at, closed_at, is_nothing, end_at, certificate_at}
+use Rattle.cert_text.specs.Reading.{◌>>=◌, Remaining, first_of, line_at, fixed_at, header_at, kind_at, bound_at, parts_at, classes_at, columns_at, closed_at, is_nothing, end_at, certificate_at}
 use Rattle.line_theory.proofs.Readings.{one}
 use Rattle.line_theory.proofs.Frames.{Frame, Ends, Like, ends_then, ends_like, like_then, Finishes, finishes_then, finishes_map, OnLine, one_past, one_like}
 use Rattle.cert_laws.proofs.Reading.{Cert}
-use Rattle.cert_laws.proofs.Readers.{fixed, kind, bound, parts, columns, closed}
+use Rattle.cert_laws.proofs.Readers.{fixed, kind, bound, parts, classes, columns, closed}
 
 abbrev pub lines_from : ℕ → List (List ℕ) → Remaining
 lines_from n ls = record { number = n; lines = ls }
@@ -55,37 +55,43 @@ end_of_text G = finishes_then G.frame (λ q. tt) (λ q. q) (fixed_at (codes "end
 -- ---- the first line
 
 -- the version, by whether the line is the first of each
-abbrev version_by : Bool → Bool → Result Version CertFault
-version_by one two = cond one (Ok One) (cond two (Ok Two) (Err fault.Header))
+abbrev version_by : Bool → Bool → Bool → Result Version CertFault
+version_by one two three = cond one (Ok One) (cond two (Ok Two) (cond three (Ok Three) (Err fault.Header)))
 
 header_made : ℕ → List ℕ → Result Version CertFault
-header_made m l = version_by (bytes_eq l (codes "optplan-cert 1")) (bytes_eq l (codes "optplan-cert 2"))
+header_made m l = version_by (bytes_eq l (codes "optplan-cert 1")) (bytes_eq l (codes "optplan-cert 2")) (bytes_eq l (codes "optplan-cert 3"))
 
 abbrev with_version : Remaining → Version → Result (Version × Remaining) CertFault
 with_version q version = Ok (version, q)
 
-header_if : (a b : Bool) (q : Remaining) → cond a (with_version q One) (cond b (with_version q Two) (Err fault.Header)) ≡ (version_by a b >>= with_version q)
-header_if true b q = refl
-header_if false true q = refl
-header_if false false q = refl
+abbrev header_with : Bool → Bool → Bool → Remaining → Result (Version × Remaining) CertFault
+header_with one two three q = cond one (with_version q One) (cond two (with_version q Two) (cond three (with_version q Three) (Err fault.Header)))
 
-header_by : (p : Result (List ℕ × Remaining) CertFault) → (p >>= λ l. cond (bytes_eq l.0 (codes "optplan-cert 1")) (with_version l.1 One) (cond (bytes_eq l.0 (codes "optplan-cert 2")) (with_version l.1 Two) (Err fault.Header)))
-    ≡ (p >>= λ l. version_by (bytes_eq l.0 (codes "optplan-cert 1")) (bytes_eq l.0 (codes "optplan-cert 2")) >>= with_version l.1)
-header_by (Ok l) = header_if (bytes_eq l.0 (codes "optplan-cert 1")) (bytes_eq l.0 (codes "optplan-cert 2")) l.1
+header_if : (one two three : Bool) (q : Remaining) → header_with one two three q ≡ (version_by one two three >>= with_version q)
+header_if true two three q = refl
+header_if false true three q = refl
+header_if false false true q = refl
+header_if false false false q = refl
+
+header_by : (p : Result (List ℕ × Remaining) CertFault)
+    → (p >>= λ l. header_with (bytes_eq l.0 (codes "optplan-cert 1")) (bytes_eq l.0 (codes "optplan-cert 2")) (bytes_eq l.0 (codes "optplan-cert 3")) l.1)
+    ≡ (p >>= λ l. version_by (bytes_eq l.0 (codes "optplan-cert 1")) (bytes_eq l.0 (codes "optplan-cert 2")) (bytes_eq l.0 (codes "optplan-cert 3")) >>= with_version l.1)
+header_by (Ok l) = header_if (bytes_eq l.0 (codes "optplan-cert 1")) (bytes_eq l.0 (codes "optplan-cert 2")) (bytes_eq l.0 (codes "optplan-cert 3")) l.1
 header_by (Err e) = refl
 
 header_is : (r : Remaining) → header_at r ≡ one Cert header_made r
 unfolding header_at header_made
 header_is r = header_by (line_at r)
 
-on_header : (m : ℕ) (a b : Bool) → m ≡ 1 → OnLine Cert m (version_by a b)
-on_header m true b first = tt
-on_header m false true first = tt
-on_header m false false first = sym first
+on_header : (m : ℕ) (one two three : Bool) → m ≡ 1 → OnLine Cert m (version_by one two three)
+on_header m true two three first = tt
+on_header m false true three first = tt
+on_header m false false true first = tt
+on_header m false false false first = sym first
 
 header_on : (m : ℕ) (l : List ℕ) → m ≡ 1 → OnLine Cert m (header_made m l)
 unfolding header_made
-header_on m l first = on_header m (bytes_eq l (codes "optplan-cert 1")) (bytes_eq l (codes "optplan-cert 2")) first
+header_on m l first = on_header m (bytes_eq l (codes "optplan-cert 1")) (bytes_eq l (codes "optplan-cert 2")) (bytes_eq l (codes "optplan-cert 3")) first
 
 header_ends : (F : Frame Cert) (r : Remaining) → r.number ≡ 1 → F.Past r → Ends F (λ (x : Version × Remaining). F.Past x.1) (header_at r)
 header_ends F r first p = rw (header_is r) (one_past F header_made r (λ l. header_on r.number l first) p)
@@ -97,17 +103,18 @@ header_like F r q first h = rw (header_is r, header_is q) (one_like F header_mad
 -- ---- the whole text
 
 abbrev behind_header : Version → Remaining → Result CertificateValue CertFault
-behind_header version header = kind_at header >>= λ planning. bound_at planning.1 >>= λ bound. parts_at planning.0 bound.1 >>= λ kind. columns_at version kind.1 >>= λ columns. closed_at columns.1 >>= λ closed.
-    end_at closed.1 >>= λ end. Ok (record { version = version; kind = kind.0; bound = bound.0; columns = columns.0; closed = closed.0 })
+behind_header version header = kind_at header >>= λ planning. bound_at planning.1 >>= λ bound. parts_at planning.0 bound.1 >>= λ kind. classes_at version kind.1 >>= λ classes. columns_at version classes.1 >>= λ columns. closed_at columns.1 >>= λ closed.
+    end_at closed.1 >>= λ end. Ok (record { version = version; kind = kind.0; bound = bound.0; classes = classes.0; columns = columns.0; closed = closed.0 })
 
 body : (G : EndFrame) (version : Version) → Finishes G.frame (behind_header version)
 body G version =
     finishes_then G.frame (λ x. x.0) (λ x. x.1) _ _ (kind G.frame) (λ planning.
     finishes_then G.frame (λ x. x.0) (λ x. x.1) _ _ (bound G.frame) (λ b.
     finishes_then G.frame (λ x. x.0) (λ x. x.1) _ _ (parts G.frame planning) (λ k.
+    finishes_then G.frame (λ x. x.0) (λ x. x.1) _ _ (classes G.frame version) (λ rows.
     finishes_then G.frame (λ x. x.0) (λ x. x.1) _ _ (columns G.frame version) (λ cs.
     finishes_then G.frame (λ x. x.0) (λ x. x.1) _ _ (closed G.frame) (λ es.
-    finishes_map G.frame end_at (λ end. record { version = version; kind = k; bound = b; columns = cs; closed = es }) (end_of_text G))))))
+    finishes_map G.frame end_at (λ end. record { version = version; kind = k; bound = b; classes = rows; columns = cs; closed = es }) (end_of_text G)))))))
 
 pub certificate_ends : (G : EndFrame) (r : Remaining) → r.number ≡ 1 → G.frame.Past r → Ends G.frame (λ (c : CertificateValue). Unit {0}) (certificate_at r)
 unfolding certificate_at

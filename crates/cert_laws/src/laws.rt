@@ -2,7 +2,8 @@
 //!
 //! Lines end with line feeds; bytes after the last line feed are one more line.
 
-ghost use Rattle.std.specs.Prelude.{◌≡◌, ◌≢◌, ◌<◌, ◌≤◌, ◌^◌, ◌++◌, ◌∷◌, [], ℕ, List, length, Some, Ok, Err};
+ghost use Rattle.std.specs.Prelude.{◌≡◌, ◌≢◌, ◌<◌, ◌≤◌, ◌^◌, ◌++◌, ◌∷◌, ◌↔◌, [], ℕ, List, length, true, Some, Ok, Err};
+ghost use Rattle.abstraction_domain.specs.Rows.{are_numbered, shares_class};
 ghost use Rattle.cert_value.specs.Certificates.{CertificateValue};
 ghost use Rattle.cert_text.specs.Spelling.{spelling};
 ghost use Rattle.cert_value.specs.Lawful.{IsLawful};
@@ -10,6 +11,7 @@ ghost use Rattle.cert_text.specs.Reading.{certificate_of};
 ghost use Rattle.cert_text.specs.declared.fault.CertFault.{CertFault};
 ghost use Rattle.cert_text.specs.declared.fault.CertFault.TheVariants.{Truncated};
 ghost use Rattle.cert_laws.specs.FaultLines.{line_count, line_of, IsWithin};
+ghost use Rattle.cert_laws.specs.Repeats.{OccursTwice};
 
 /// Proves that two texts that are read as the same certificate are the same text.
 pub fn one_text()
@@ -48,4 +50,10 @@ pub fn fault_is_on_a_line()
 pub fn lines_before_have_no_fault()
     ensures { (front rest : List ℕ) (e d : CertFault) (m : ℕ) → certificate_of (front ++ 10 ∷ rest) ≡ Err e → line_of e ≡ Some m →
         line_count (front ++ 10 ∷ []) < m → certificate_of (front ++ 10 ∷ []) ≡ Err d → d ≡ Truncated }
+{}
+
+/// Proves that two values of a variable share a class exactly if a class occurs twice in its row, if the
+/// classes are numbered in the order of their first occurrences.
+pub fn shared_class_occurs_twice()
+    ensures { (classes : List ℕ) → are_numbered classes ≡ true → (shares_class classes ≡ true) ↔ OccursTwice classes }
 {}

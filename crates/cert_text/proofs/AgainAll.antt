@@ -10,17 +10,18 @@ use Rattle.cert_text.specs.declared.fault.CertFault.TheVariants as fault
 use Rattle.std.proofs.lemmas.Bool.{false≢true}
 use Rattle.cert_value.specs.Certificates.{Kind, FiniteDomain, Planning, Variable, Table, Entry, CertificateValue, width_of}
 use Rattle.cert_text.specs.Pieces.{joined, pieces, into_first}
-use Rattle.cert_text.specs.Spelling.{counted, variable_line, kind_line, kind_lines, row_line, mapping_lines, shares_line, values_line, table_lines, column_lines, columns_lines, entry_line, closed_lines, version_text, lines, spelling}
+use Rattle.cert_text.specs.Spelling.{counted, variable_line, kind_line, kind_lines, classes_line, classes_lines, row_line, mapping_lines, shares_line, values_line, table_lines, column_lines, columns_lines, entry_line, closed_lines, version_text, lines, spelling}
 use Rattle.abstraction_domain.specs.Rows.{Row}
 use Rattle.abstraction_mapping.specs.Mappings.{Mapping, Pattern, Domains}
 use Rattle.cert_value.specs.declared.certificate.Version.{Version}
-use Rattle.cert_value.specs.declared.certificate.Version.TheVariants.{One, Two}
-use Rattle.cert_value.specs.Lawful.{IsAtom, IsVariable, IsLawfulKind, IsRow, IsLawfulMapping, AreShares, AreValues, IsTable, IsColumn, AreColumns, IsEntry, AreEntries, IsLawful}
+use Rattle.cert_value.specs.declared.certificate.Version.TheVariants.{One, Two, Three}
+use Rattle.cert_value.specs.Lawful.{IsAtom, IsVariable, IsLawfulKind, AreClasses, AreLawfulClasses, IsRow, AreRows, IsLawfulMapping, AreShares, AreValues, IsTable, IsColumn, AreColumns, IsEntry, AreEntries, IsLawful}
 use Rattle.cert_text.specs.Reading.{◌>>=◌, Remaining, line_at, repeated, fixed_at, header_at, kind_at, bound_at, atom_at, atoms_at, variable_at, variables_at, parts_at, table_at, column_at, columns_at, entry_at, entry_step, closed_at, is_nothing, end_at, certificate_at, certificate_of}
 use Rattle.cert_text.proofs.Joining.{IsPlain, lines_of_text, lines_behind}
 use Rattle.cert_text.proofs.PieceLaws.{some_piece}
 use Rattle.cert_text.proofs.Again.{lines_from, line_again, IsWord, plain_words, words_again, decimal_word, distance_word, distance_words, shares_words, count_again, bound_again, some_items, shares_line_again, values_again, variable_words, variable_again, atom_words, atom_again, entry_words, entry_again}
 use Rattle.cert_text.proofs.AgainItems.{before, IsReadAgain, before_append, some_left, pushed, section_again}
+use Rattle.cert_text.proofs.AgainClasses.{classes_words, all_classes_again}
 use Rattle.cert_text.proofs.AgainRows.{pattern_words, row_words, mapping_read}
 
 -- ---- atoms and variables
@@ -151,6 +152,7 @@ header_read : (version : Version) (n : ℕ) (tail : List (List ℕ)) → 0 < len
 unfolding header_at
 header_read One n tail some = rw (line_again n (codes "optplan-cert 1") tail some) refl
 header_read Two n tail some = rw (line_again n (codes "optplan-cert 2") tail some) refl
+header_read Three n tail some = rw (line_again n (codes "optplan-cert 3") tail some) refl
 
 kind_read : (k : Kind) (n : ℕ) (tail : List (List ℕ)) → 0 < length tail → kind_at (lines_from n (joined 32 (kind_line k) ∷ tail)) ≡ Ok (is_planning k, lines_from (n + 1) tail)
 unfolding kind_at is_planning
@@ -207,16 +209,38 @@ words_kind (Planning atoms vs) ok =
     (counted_words (codes "atoms") (length atoms) (omega (arith, ok.few_atoms)) (record { plain = refl; filled = omega arith }), words_atoms atoms ok.each_atom)
     (counted_words (codes "vars") (length vs) (omega (arith, ok.few_variables)) (record { plain = refl; filled = omega arith }), words_variables (length atoms) vs ok.few_atoms ok.each_variable)
 
+words_classes : (rows : List (List ℕ)) → AllByRecursion AreClasses rows → AreWords (map classes_line rows)
+unfolding AreWords
+words_classes [] all = tt
+words_classes (row ∷ rows) all = (classes_words row all.0, words_classes rows all.1)
+
+words_some_classes : (rows : List (List ℕ)) → length rows < 2 ^ 32 → AllByRecursion AreClasses rows → AreWords (classes_lines rows)
+unfolding AreWords
+words_some_classes [] few all = tt
+words_some_classes (row ∷ rows) few all =
+    (counted_words (codes "classes") (length (row ∷ rows)) (omega arith) (record { plain = refl; filled = omega arith }), words_classes (row ∷ rows) all)
+
+words_all_classes : (version : Version) (rows : List (List ℕ)) → AreLawfulClasses version rows → AreWords (classes_lines rows)
+unfolding AreWords
+words_all_classes One rows ok = rw ok tt
+words_all_classes Two rows ok = rw ok tt
+words_all_classes Three rows ok = words_some_classes rows ok.few ok.each
+
 words_rows : (rows : List Row) → AllByRecursion IsRow rows → AreWords (map row_line rows)
 unfolding AreWords
 words_rows [] all = tt
 words_rows (r ∷ rows) all = (row_words r all.0, words_rows rows all.1)
 
+words_domains : (rows : List Row) → AreRows rows → AreWords (mapping_lines (Domains rows))
+unfolding AreWords
+words_domains rows ok = (counted_words (codes "domain") (length rows) (omega (arith, ok.few)) (record { plain = refl; filled = omega arith }), words_rows rows ok.each)
+
 words_mapping : (version : Version) (m : Mapping) → IsLawfulMapping version m → AreWords (mapping_lines m)
 unfolding AreWords
 words_mapping version (Pattern p) ok = (pattern_words p ok, tt)
 words_mapping One (Domains rows) ok = absurd ok
-words_mapping Two (Domains rows) ok = (counted_words (codes "domain") (length rows) (omega (arith, ok.few)) (record { plain = refl; filled = omega arith }), words_rows rows ok.each)
+words_mapping Two (Domains rows) ok = words_domains rows ok
+words_mapping Three (Domains rows) ok = words_domains rows ok
 
 words_table : (version : Version) (t : Table) → IsTable version t → AreWords (table_lines t)
 unfolding AreWords
@@ -242,6 +266,7 @@ kind_word (Planning atoms vs) = (record { plain = refl; filled = omega arith }, 
 version_word : (version : Version) → IsWord (version_text version)
 version_word One = record { plain = refl; filled = omega arith }
 version_word Two = record { plain = refl; filled = omega arith }
+version_word Three = record { plain = refl; filled = omega arith }
 
 words_lines : (c : CertificateValue) → IsLawful c → AreWords (lines c)
 unfolding AreWords
@@ -250,7 +275,10 @@ words_lines c ok =
     let top = (codes "optplan-cert" ∷ version_text c.version ∷ []) ∷ kind_line c.kind ∷ (codes "bound" ∷ distance_text c.bound ∷ []) ∷ kind_lines c.kind in
     let head : AreWords ((codes "optplan-cert" ∷ version_text c.version ∷ []) ∷ kind_line c.kind ∷ (codes "bound" ∷ distance_text c.bound ∷ []) ∷ kind_lines c.kind) =
     ((record { plain = refl; filled = omega arith }, (version_word c.version, tt)), (kind_word c.kind, ((record { plain = refl; filled = omega arith }, (distance_word (2 ^ 62) c.bound (omega arith) ok.bound, tt)), k))) in
-    words_append ((top ++ columns_lines c.columns) ++ closed_lines c.closed) ((codes "end" ∷ []) ∷ []) (words_append (top ++ columns_lines c.columns) (closed_lines c.closed) (words_append top (columns_lines c.columns) head (words_columns c.version c.columns ok.columns)) (words_closed c.closed ok.closed))
+    let second = words_append top (classes_lines c.classes) head (words_all_classes c.version c.classes ok.classes) in
+    let third = words_append (top ++ classes_lines c.classes) (columns_lines c.columns) second (words_columns c.version c.columns ok.columns) in
+    words_append (((top ++ classes_lines c.classes) ++ columns_lines c.columns) ++ closed_lines c.closed) ((codes "end" ∷ []) ∷ [])
+    (words_append ((top ++ classes_lines c.classes) ++ columns_lines c.columns) (closed_lines c.closed) third (words_closed c.closed ok.closed))
     ((record { plain = refl; filled = omega arith }, tt), tt)
 
 plain_lines : (ls : List (List (List ℕ))) → AreWords ls → AllByRecursion (AllByRecursion IsPlain) ls
@@ -272,21 +300,25 @@ all_behind c ok tail some =
     let last = before ((codes "end" ∷ []) ∷ []) tail in
     let closing = before (closed_lines c.closed) last in
     let middle = before (columns_lines c.columns) closing in
-    let kinds = before (kind_lines c.kind) middle in
+    let reduced = before (classes_lines c.classes) middle in
+    let kinds = before (kind_lines c.kind) reduced in
     let some6 : 0 < length last = omega arith in
     let some5 = some_left (closed_lines c.closed) last some6 in
     let some4 = some_left (columns_lines c.columns) closing some5 in
-    let some3 = some_left (kind_lines c.kind) middle some4 in
+    let some7 = some_left (classes_lines c.classes) middle some4 in
+    let some3 = some_left (kind_lines c.kind) reduced some7 in
     let regroup : before (lines c) tail ≡ joined 32 one ∷ joined 32 two ∷ joined 32 three ∷ kinds =
-    before_append ((head ++ columns_lines c.columns) ++ closed_lines c.closed) ((codes "end" ∷ []) ∷ []) tail
-    ∙ before_append (head ++ columns_lines c.columns) (closed_lines c.closed) last ∙ before_append head (columns_lines c.columns) closing in
+    before_append (((head ++ classes_lines c.classes) ++ columns_lines c.columns) ++ closed_lines c.closed) ((codes "end" ∷ []) ∷ []) tail
+    ∙ before_append ((head ++ classes_lines c.classes) ++ columns_lines c.columns) (closed_lines c.closed) last
+    ∙ before_append (head ++ classes_lines c.classes) (columns_lines c.columns) closing ∙ before_append head (classes_lines c.classes) middle in
     let r1 = header_read c.version 1 (joined 32 two ∷ joined 32 three ∷ kinds) (omega arith) in
     let r2 = kind_read c.kind 2 (joined 32 three ∷ kinds) (omega arith) in
     let r3 = bound_read c.bound ok.bound 3 kinds some3 in
-    let r4 = parts_read c.kind ok.kind 4 middle some4 in
-    let r5 = columns_read c.version c.columns ok.columns r4.0 closing some5 in
-    let r6 = closed_read c.closed ok.closed r5.0 last some6 in
-    (r6.0, rw (regroup, r1, r2, r3, r4.1, r5.1, r6.1) refl)
+    let r4 = parts_read c.kind ok.kind 4 reduced some7 in
+    let r5 = all_classes_again c.version c.classes ok.classes r4.0 middle some4 in
+    let r6 = columns_read c.version c.columns ok.columns r5.0 closing some5 in
+    let r7 = closed_read c.closed ok.closed r6.0 last some6 in
+    (r7.0, rw (regroup, r1, r2, r3, r4.1, r5.1, r6.1, r7.1) refl)
 
 all_again : (c : CertificateValue) → IsLawful c → certificate_at (lines_from 1 (before (lines c) ([] ∷ []))) ≡ Ok c
 all_again c ok =

@@ -8,8 +8,8 @@ use Rattle.abstraction_domain.specs.Rows.{Row}
 use Rattle.abstraction_domain.specs.Domains.{variables}
 use Rattle.abstraction_mapping.specs.Mappings.{Mapping, Pattern, Domains}
 use Rattle.cert_value.specs.declared.certificate.Version.{Version}
-use Rattle.cert_value.specs.declared.certificate.Version.TheVariants.{One, Two}
-use Rattle.cert_value.specs.Lawful.{IsIncreasing, IsPattern, IsRow, IsLawfulMapping}
+use Rattle.cert_value.specs.declared.certificate.Version.TheVariants.{One, Two, Three}
+use Rattle.cert_value.specs.Lawful.{IsIncreasing, IsPattern, IsRow, AreRows, IsLawfulMapping}
 use Rattle.cert_text.specs.declared.fault.CertFault.{CertFault}
 use Rattle.cert_text.specs.Pieces.{joined}
 use Rattle.cert_text.specs.Spelling.{counted, pattern_line, row_line, mapping_lines}
@@ -81,13 +81,12 @@ rows_again (x ∷ xs) front low up all n tail some =
 not_domain : (version : Version) (ws : List (List ℕ)) → is_domain version (codes "table" ∷ ws) ≡ false
 not_domain One ws = refl
 not_domain Two ws = refl
+not_domain Three ws = refl
 
-pub mapping_read : (version : Version) (m : Mapping) → IsLawfulMapping version m → IsReadAgain (mapping_at version) m (mapping_lines m)
+domains_read : (version : Version) (rows : List Row) → is_domain version (counted (codes "domain") (length rows) []) ≡ true → AreRows rows
+    → IsReadAgain (mapping_at version) (Domains rows) (mapping_lines (Domains rows))
 unfolding mapping_at mapping_behind rows_at
-mapping_read version (Pattern p) ok n tail some =
-    (n + 1, rw (line_again n (joined 32 (pattern_line p)) tail some, words_again _ _ (pattern_words p ok), not_domain version _, pattern_again n p ok) refl)
-mapping_read One (Domains rows) ok n tail some = absurd ok
-mapping_read Two (Domains rows) ok n tail some =
+domains_read version rows first ok n tail some =
     let rest = before (map row_line rows) tail in
     let d = decimal_word (length rows) (omega (arith, ok.few)) in
     let m = rows_again rows [] (follow_none rows) ok.increasing ok.each (n + 1) tail some in (
@@ -95,8 +94,17 @@ mapping_read Two (Domains rows) ok n tail some =
       rw (
         line_again n (joined 32 (counted (codes "domain") (length rows) [])) rest (some_left (map row_line rows) tail some),
         words_again (codes "domain") (decimal (length rows) ∷ []) (record { plain = refl; filled = omega arith }, (d, tt)),
+        first,
         second_again n (codes "domain") (decimal (length rows)) d,
         number_in_again 1 (2 ^ 32) (length rows) (omega arith) (some_items rows ok.some) ok.few,
         m.1,
       ) refl,
     )
+
+pub mapping_read : (version : Version) (m : Mapping) → IsLawfulMapping version m → IsReadAgain (mapping_at version) m (mapping_lines m)
+unfolding mapping_at mapping_behind
+mapping_read version (Pattern p) ok n tail some =
+    (n + 1, rw (line_again n (joined 32 (pattern_line p)) tail some, words_again _ _ (pattern_words p ok), not_domain version _, pattern_again n p ok) refl)
+mapping_read One (Domains rows) ok n tail some = absurd ok
+mapping_read Two (Domains rows) ok n tail some = domains_read Two rows refl ok n tail some
+mapping_read Three (Domains rows) ok n tail some = domains_read Three rows refl ok n tail some

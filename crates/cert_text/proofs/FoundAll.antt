@@ -10,16 +10,17 @@ use Rattle.cert_text.specs.declared.fault.CertFault.{CertFault}
 use Rattle.cert_text.specs.declared.fault.CertFault.TheVariants as fault
 use Rattle.cert_value.specs.Certificates.{Kind, FiniteDomain, Planning, Variable, Table, Entry, CertificateValue, width_of}
 use Rattle.cert_text.specs.Pieces.{pieces, joined}
-use Rattle.cert_text.specs.Spelling.{counted, variable_line, kind_line, kind_lines, mapping_lines, shares_line, values_line, table_lines, column_lines, columns_lines, entry_line, closed_lines, version_text, lines, spelling}
+use Rattle.cert_text.specs.Spelling.{counted, variable_line, kind_line, kind_lines, classes_lines, mapping_lines, shares_line, values_line, table_lines, column_lines, columns_lines, entry_line, closed_lines, version_text, lines, spelling}
 use Rattle.cert_value.specs.declared.certificate.Version.{Version}
-use Rattle.cert_value.specs.declared.certificate.Version.TheVariants.{One, Two}
+use Rattle.cert_value.specs.declared.certificate.Version.TheVariants.{One, Two, Three}
 use Rattle.cert_value.specs.Lawful.{IsAtom, IsVariable, IsLawfulKind, IsTable, IsColumn, AreColumns, IsEntry, AreEntries, IsLawful}
-use Rattle.cert_text.specs.Reading.{◌>>=◌, Remaining, line_at, repeated, behind, formed, count_at, fixed_at, header_at, kind_at, bound_of, bound_at, atom_of, atom_at, atoms_at, variable_of, variable_at, variables_at, parts_at, mapping_at, shares_of, values_of, table_at, column_at, columns_at, entry_of, entry_at, entry_step, closed_at, is_nothing, end_at, certificate_at, certificate_of}
-use Rattle.cert_text.proofs.Steps.{bind_ok, formed_ok, ok_is, some_is}
+use Rattle.cert_text.specs.Reading.{◌>>=◌, Remaining, line_at, repeated, behind, formed, count_at, fixed_at, header_at, kind_at, bound_of, bound_at, atom_of, atom_at, atoms_at, variable_of, variable_at, variables_at, parts_at, classes_at, mapping_at, shares_of, values_of, table_at, column_at, columns_at, entry_of, entry_at, entry_step, closed_at, is_nothing, end_at, certificate_at, certificate_of}
+use Rattle.cert_text.proofs.Steps.{bind_ok, bind_by, formed_ok, ok_is, some_is}
 use Rattle.cert_text.proofs.Joining.{joined_pieces, text_of_lines}
 use Rattle.cert_text.proofs.Widths.{AreAsWide, next_fits, wide_push}
 use Rattle.cert_text.proofs.Found.{Takes, Takes-then, nothing_taken, one_text, one_line, same_bytes, fixed_found, count_found}
 use Rattle.cert_text.proofs.FoundLines.{not_empty, bound_found, shares_line_found, values_found, variable_found, atom_found, entry_found}
+use Rattle.cert_text.proofs.FoundClasses.{all_classes_found}
 use Rattle.cert_text.proofs.FoundRows.{mapping_found}
 
 -- what a step that is done this many times reads
@@ -228,24 +229,29 @@ closed_read r q es e =
 abbrev header_words : Version → List (List ℕ)
 header_words version = codes "optplan-cert" ∷ version_text version ∷ []
 
-abbrev header_result : Bool → Bool → Remaining → Result (Version × Remaining) CertFault
-header_result a b x = cond a (Ok (One, x)) (cond b (Ok (Two, x)) (Err fault.Header))
+abbrev is_version : List ℕ → Version → Bool
+is_version l version = bytes_eq l (joined 32 (header_words version))
 
-header_by : (l : List ℕ) (a b : Bool) (x : Remaining) (read : Version × Remaining) → a ≡ bytes_eq l (codes "optplan-cert 1") → b ≡ bytes_eq l (codes "optplan-cert 2") → header_result a b x ≡ Ok read
+abbrev header_result : Bool → Bool → Bool → Remaining → Result (Version × Remaining) CertFault
+header_result a b d x = cond a (Ok (One, x)) (cond b (Ok (Two, x)) (cond d (Ok (Three, x)) (Err fault.Header)))
+
+header_of : (l : List ℕ) (version : Version) (x : Remaining) (read : Version × Remaining) → true ≡ is_version l version → (version, x) ≡ read
     → (l ≡ joined 32 (header_words read.0)) × (x ≡ read.1)
-header_by l true b x read is so e =
-    let made : Version × Remaining = (One, x) in
-    subst (λ (p : Version × Remaining). (l ≡ joined 32 (header_words p.0)) × (x ≡ p.1)) (ok_is made read e) (same_bytes l (codes "optplan-cert 1") (sym is), refl)
-header_by l false true x read is so e =
-    let made : Version × Remaining = (Two, x) in
-    subst (λ (p : Version × Remaining). (l ≡ joined 32 (header_words p.0)) × (x ≡ p.1)) (ok_is made read e) (same_bytes l (codes "optplan-cert 2") (sym so), refl)
-header_by l false false x read is so e = absurd cc
+header_of l version x read is e =
+    subst (λ (p : Version × Remaining). (l ≡ joined 32 (header_words p.0)) × (x ≡ p.1)) e (same_bytes l (joined 32 (header_words version)) (sym is), refl)
+
+header_by : (l : List ℕ) (a b d : Bool) (x : Remaining) (read : Version × Remaining) → a ≡ is_version l One → b ≡ is_version l Two → d ≡ is_version l Three
+    → header_result a b d x ≡ Ok read → (l ≡ joined 32 (header_words read.0)) × (x ≡ read.1)
+header_by l true b d x read one two three e = header_of l One x read one (ok_is (One, x) read e)
+header_by l false true d x read one two three e = header_of l Two x read two (ok_is (Two, x) read e)
+header_by l false false true x read one two three e = header_of l Three x read three (ok_is (Three, x) read e)
+header_by l false false false x read one two three e = absurd cc
 
 header_read : (r q : Remaining) (version : Version) → header_at r ≡ Ok (version, q) → Takes r (header_words version ∷ []) q
 unfolding header_at
 header_read r q version e =
-    let a = bind_ok (line_at r) (λ l. header_result (bytes_eq l.0 (codes "optplan-cert 1")) (bytes_eq l.0 (codes "optplan-cert 2")) l.1) (version, q) e in
-    let h = header_by a.0.0 (bytes_eq a.0.0 (codes "optplan-cert 1")) (bytes_eq a.0.0 (codes "optplan-cert 2")) a.0.1 (version, q) refl refl a.2 in
+    let a = bind_ok (line_at r) (λ l. header_result (is_version l.0 One) (is_version l.0 Two) (is_version l.0 Three) l.1) (version, q) e in
+    let h = header_by a.0.0 (is_version a.0.0 One) (is_version a.0.0 Two) (is_version a.0.0 Three) a.0.1 (version, q) refl refl refl a.2 in
     subst (Takes r (header_words version ∷ [])) h.1 (one_text r a.0.1 a.0.0 (header_words version) a.1 h.0)
 
 abbrev kind_result : ℕ → Bool → Bool → Remaining → Result (Bool × Remaining) CertFault
@@ -305,37 +311,70 @@ long_by : (b : Bool) (x : Result CertificateValue CertFault) (c : CertificateVal
 long_by true x c e = absurd cc
 long_by false x c e = e
 
-all_read : (r : Remaining) (c : CertificateValue) → certificate_at r ≡ Ok c → (r.lines ≡ map (joined 32) (lines c) ++ [] ∷ []) × IsLawful c
+-- the lines that remain are those of the certificate
+abbrev AreOf : Remaining → CertificateValue → Type 0
+AreOf r c = (r.lines ≡ map (joined 32) (lines c) ++ [] ∷ []) × IsLawful c
+
+parts_found : (r r1 r2 r3 r4 r5 r6 r7 : Remaining) (planning : Bool) (end : Unit {0}) (c : CertificateValue) → header_at r ≡ Ok (c.version, r1) → kind_at r1 ≡ Ok (planning, r2) → bound_at r2 ≡ Ok (c.bound, r3)
+    → parts_at planning r3 ≡ Ok (c.kind, r4) → classes_at c.version r4 ≡ Ok (c.classes, r5) → columns_at c.version r5 ≡ Ok (c.columns, r6) → closed_at r6 ≡ Ok (c.closed, r7) → end_at r7 ≡ Ok end → AreOf r c
+parts_found r r1 r2 r3 r4 r5 r6 r7 planning end c e1 e2 e3 e4 e5 e6 e7 e8 =
+    let t1 = header_read r r1 c.version e1 in
+    let t2 = kind_read r1 r2 planning e2 in
+    let t3 = bound_read r2 r3 c.bound e3 in
+    let t4 = parts_read planning r3 r4 c.kind e4 in
+    let t5 = all_classes_found c.version r4 r5 c.classes e5 in
+    let t6 = columns_read c.version r5 r6 c.columns e6 in
+    let t7 = closed_read r6 r7 c.closed e7 in
+    let one = header_words c.version in
+    let two = kind_line c.kind in
+    let three = codes "bound" ∷ distance_text c.bound ∷ [] in
+    let head = one ∷ two ∷ three ∷ kind_lines c.kind in
+    let s2 = Takes-then r r1 r2 (one ∷ []) (two ∷ []) t1 (subst (λ (w : List (List ℕ)). Takes r1 (w ∷ []) r2) (sym t4.2) t2) in
+    let s3 = Takes-then r r2 r3 (one ∷ two ∷ []) (three ∷ []) s2 t3.0 in
+    let s4 = Takes-then r r3 r4 (one ∷ two ∷ three ∷ []) (kind_lines c.kind) s3 t4.0 in
+    let s5 = Takes-then r r4 r5 head (classes_lines c.classes) s4 t5.0 in
+    let s6 = Takes-then r r5 r6 (head ++ classes_lines c.classes) (columns_lines c.columns) s5 t6.0 in
+    let s7 = Takes-then r r6 r7 ((head ++ classes_lines c.classes) ++ columns_lines c.columns) (closed_lines c.closed) s6 t7.0 in (
+      ends_with r r7 (((head ++ classes_lines c.classes) ++ columns_lines c.columns) ++ closed_lines c.closed) s7 (end_read r7 end e8),
+      record { kind = t4.1; bound = t3.1; classes = t5.1; columns = t6.1; closed = t7.1 },
+    )
+
+-- what is read after each part
+abbrev behind_closed : Version → Kind → Distance → List (List ℕ) → List (List Table) → List Entry × Remaining → Result CertificateValue CertFault
+behind_closed version kind bound classes columns closed =
+    end_at closed.1 >>= λ end. Ok (record { version = version; kind = kind; bound = bound; classes = classes; columns = columns; closed = closed.0 })
+
+abbrev behind_columns : Version → Kind → Distance → List (List ℕ) → List (List Table) × Remaining → Result CertificateValue CertFault
+behind_columns version kind bound classes columns = closed_at columns.1 >>= λ closed. behind_closed version kind bound classes columns.0 closed
+
+abbrev behind_classes : Version → Kind → Distance → List (List ℕ) × Remaining → Result CertificateValue CertFault
+behind_classes version kind bound classes = columns_at version classes.1 >>= λ columns. behind_columns version kind bound classes.0 columns
+
+abbrev behind_kind : Version → Distance → Kind × Remaining → Result CertificateValue CertFault
+behind_kind version bound kind = classes_at version kind.1 >>= λ classes. behind_classes version kind.0 bound classes
+
+abbrev behind_bound : Version → Bool → Distance × Remaining → Result CertificateValue CertFault
+behind_bound version planning bound = parts_at planning bound.1 >>= λ kind. behind_kind version bound.0 kind
+
+abbrev behind_planning : Version → Bool × Remaining → Result CertificateValue CertFault
+behind_planning version planning = bound_at planning.1 >>= λ bound. behind_bound version planning.0 bound
+
+abbrev behind_header : Version × Remaining → Result CertificateValue CertFault
+behind_header header = kind_at header.1 >>= λ planning. behind_planning header.0 planning
+
+all_read : (r : Remaining) (c : CertificateValue) → certificate_at r ≡ Ok c → AreOf r c
 unfolding certificate_at
 all_read r c e =
-    let a = bind_ok (header_at r) (λ header. kind_at header.1 >>= λ planning. bound_at planning.1 >>= λ bound. parts_at planning.0 bound.1 >>= λ kind. columns_at header.0 kind.1 >>= λ columns. closed_at columns.1 >>= λ closed. end_at closed.1 >>= λ end. Ok (record { version = header.0; kind = kind.0; bound = bound.0; columns = columns.0; closed = closed.0 })) c e in
-    let b = bind_ok (kind_at a.0.1) (λ planning. bound_at planning.1 >>= λ bound. parts_at planning.0 bound.1 >>= λ kind. columns_at a.0.0 kind.1 >>= λ columns. closed_at columns.1 >>= λ closed. end_at closed.1 >>= λ end. Ok (record { version = a.0.0; kind = kind.0; bound = bound.0; columns = columns.0; closed = closed.0 })) c a.2 in
-    let d = bind_ok (bound_at b.0.1) (λ bound. parts_at b.0.0 bound.1 >>= λ kind. columns_at a.0.0 kind.1 >>= λ columns. closed_at columns.1 >>= λ closed. end_at closed.1 >>= λ end. Ok (record { version = a.0.0; kind = kind.0; bound = bound.0; columns = columns.0; closed = closed.0 })) c b.2 in
-    let k = bind_ok (parts_at b.0.0 d.0.1) (λ kind. columns_at a.0.0 kind.1 >>= λ columns. closed_at columns.1 >>= λ closed. end_at closed.1 >>= λ end. Ok (record { version = a.0.0; kind = kind.0; bound = d.0.0; columns = columns.0; closed = closed.0 })) c d.2 in
-    let l = bind_ok (columns_at a.0.0 k.0.1) (λ columns. closed_at columns.1 >>= λ closed. end_at closed.1 >>= λ end. Ok (record { version = a.0.0; kind = k.0.0; bound = d.0.0; columns = columns.0; closed = closed.0 })) c k.2 in
-    let m = bind_ok (closed_at l.0.1) (λ closed. end_at closed.1 >>= λ end. Ok (record { version = a.0.0; kind = k.0.0; bound = d.0.0; columns = l.0.0; closed = closed.0 })) c l.2 in
-    let n = bind_ok (end_at m.0.1) (λ end. Ok (record { version = a.0.0; kind = k.0.0; bound = d.0.0; columns = l.0.0; closed = m.0.0 })) c m.2 in
-    let made : CertificateValue = record { version = a.0.0; kind = k.0.0; bound = d.0.0; columns = l.0.0; closed = m.0.0 } in
-    let t1 = header_read r a.0.1 a.0.0 a.1 in
-    let t2 = kind_read a.0.1 b.0.1 b.0.0 b.1 in
-    let t3 = bound_read b.0.1 d.0.1 d.0.0 d.1 in
-    let t4 = parts_read b.0.0 d.0.1 k.0.1 k.0.0 k.1 in
-    let t5 = columns_read a.0.0 k.0.1 l.0.1 l.0.0 l.1 in
-    let t6 = closed_read l.0.1 m.0.1 m.0.0 m.1 in
-    let t7 = end_read m.0.1 n.0 n.1 in
-    let second = subst (λ (w : List (List ℕ)). Takes a.0.1 (w ∷ []) b.0.1) (sym t4.2) t2 in
-    let one = header_words a.0.0 in
-    let two = kind_line k.0.0 in
-    let three = codes "bound" ∷ distance_text d.0.0 ∷ [] in
-    let s2 = Takes-then r a.0.1 b.0.1 (one ∷ []) (two ∷ []) t1 second in
-    let s3 = Takes-then r b.0.1 d.0.1 (one ∷ two ∷ []) (three ∷ []) s2 t3.0 in
-    let s4 = Takes-then r d.0.1 k.0.1 (one ∷ two ∷ three ∷ []) (kind_lines k.0.0) s3 t4.0 in
-    let s5 = Takes-then r k.0.1 l.0.1 (one ∷ two ∷ three ∷ kind_lines k.0.0) (columns_lines l.0.0) s4 t5.0 in
-    let s6 = Takes-then r l.0.1 m.0.1 ((one ∷ two ∷ three ∷ kind_lines k.0.0) ++ columns_lines l.0.0) (closed_lines m.0.0) s5 t6.0 in
-    subst (λ (x : CertificateValue). (r.lines ≡ map (joined 32) (lines x) ++ [] ∷ []) × IsLawful x) (ok_is made c n.2) (
-      ends_with r m.0.1 (((one ∷ two ∷ three ∷ kind_lines k.0.0) ++ columns_lines l.0.0) ++ closed_lines m.0.0) s6 t7,
-      record { kind = t4.1; bound = t3.1; columns = t5.1; closed = t6.1 },
-    )
+    bind_by (header_at r) behind_header c (AreOf r c) e (λ header e1 rest1.
+    bind_by (kind_at header.1) (behind_planning header.0) c (AreOf r c) rest1 (λ planning e2 rest2.
+    bind_by (bound_at planning.1) (behind_bound header.0 planning.0) c (AreOf r c) rest2 (λ bound e3 rest3.
+    bind_by (parts_at planning.0 bound.1) (behind_kind header.0 bound.0) c (AreOf r c) rest3 (λ kind e4 rest4.
+    bind_by (classes_at header.0 kind.1) (behind_classes header.0 kind.0 bound.0) c (AreOf r c) rest4 (λ classes e5 rest5.
+    bind_by (columns_at header.0 classes.1) (behind_columns header.0 kind.0 bound.0 classes.0) c (AreOf r c) rest5 (λ columns e6 rest6.
+    bind_by (closed_at columns.1) (behind_closed header.0 kind.0 bound.0 classes.0 columns.0) c (AreOf r c) rest6 (λ closed e7 rest7.
+    bind_by (end_at closed.1) (λ end. Ok (record { version = header.0; kind = kind.0; bound = bound.0; classes = classes.0; columns = columns.0; closed = closed.0 })) c (AreOf r c) rest7 (λ end e8 last.
+    let made : CertificateValue = record { version = header.0; kind = kind.0; bound = bound.0; classes = classes.0; columns = columns.0; closed = closed.0 } in
+    subst (AreOf r) (ok_is made c last) (parts_found r header.1 planning.1 bound.1 kind.1 classes.1 columns.1 closed.1 planning.0 end made e1 e2 e3 e4 e5 e6 e7 e8)))))))))
 
 -- what is read is spelled so
 pub certificate_found : (bytes : List ℕ) (c : CertificateValue) → certificate_of bytes ≡ Ok c → IsLawful c × (bytes ≡ spelling c)

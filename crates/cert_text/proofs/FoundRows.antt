@@ -7,7 +7,7 @@ use Rattle.abstraction_domain.specs.Rows.{Row, are_numbered}
 use Rattle.abstraction_domain.specs.Domains.{variables}
 use Rattle.abstraction_mapping.specs.Mappings.{Mapping, Pattern, Domains}
 use Rattle.cert_value.specs.declared.certificate.Version.{Version}
-use Rattle.cert_value.specs.declared.certificate.Version.TheVariants.{One, Two}
+use Rattle.cert_value.specs.declared.certificate.Version.TheVariants.{One, Two, Three}
 use Rattle.cert_value.specs.Lawful.{IsIncreasing, IsRow, AreRows, IsLawfulMapping}
 use Rattle.cert_text.specs.declared.fault.CertFault.{CertFault}
 use Rattle.cert_text.specs.Pieces.{pieces}
@@ -140,10 +140,10 @@ record MappingRead (version : Version) (ws : List (List ℕ)) (r : Remaining) (r
   pub taken : Takes r behind read.1
   pub lawful : IsLawfulMapping version read.0
 
-behind_found : (version : Version) (domain : Bool) (line : ℕ) (ws : List (List ℕ)) (r : Remaining) (read : Mapping × Remaining) → (domain ≡ true → version ≡ Two)
+behind_found : (version : Version) (domain : Bool) (line : ℕ) (ws : List (List ℕ)) (r : Remaining) (read : Mapping × Remaining) → (domain ≡ true → (rows : List Row) → AreRows rows → IsLawfulMapping version (Domains rows))
     → mapping_behind domain line ws r ≡ Ok read → MappingRead version ws r read
 unfolding mapping_behind
-behind_found version true line ws r read second e =
+behind_found version true line ws r read lawful e =
     let a = bind_ok (rows_at line ws r) (λ rows. Ok (Domains rows.0, rows.1)) read e in
     let pair : Mapping × Remaining = (Domains a.0.0, a.0.1) in
     let f = rows_found line ws r a.0.1 a.0.0 a.1 in
@@ -151,9 +151,9 @@ behind_found version true line ws r read second e =
       behind = map row_line a.0.0;
       lines_are = ap (λ (w : List (List ℕ)). w ∷ map row_line a.0.0) (sym f.0);
       taken = f.1;
-      lawful = subst (λ (v : Version). IsLawfulMapping v (Domains a.0.0)) (sym (second refl)) f.2;
+      lawful = lawful refl a.0.0 f.2;
     })
-behind_found version false line ws r read second e =
+behind_found version false line ws r read lawful e =
     let a = bind_ok (pattern_of line ws) (λ pattern. Ok (Pattern pattern, r)) read e in
     let pair : Mapping × Remaining = (Pattern a.0, r) in
     let f = pattern_found line ws a.0 a.1 in
@@ -164,16 +164,17 @@ behind_found version false line ws r read second e =
       lawful = f.1;
     })
 
-domain_is_second : (version : Version) (ws : List (List ℕ)) → is_domain version ws ≡ true → version ≡ Two
-domain_is_second One ws e = absurd cc
-domain_is_second Two ws e = refl
+domain_is_lawful : (version : Version) (ws : List (List ℕ)) → is_domain version ws ≡ true → (rows : List Row) → AreRows rows → IsLawfulMapping version (Domains rows)
+domain_is_lawful One ws e rows ok = absurd cc
+domain_is_lawful Two ws e rows ok = ok
+domain_is_lawful Three ws e rows ok = ok
 
 pub mapping_found : (version : Version) (r q : Remaining) (m : Mapping) → mapping_at version r ≡ Ok (m, q) → Takes r (mapping_lines m) q × IsLawfulMapping version m
 unfolding mapping_at
 mapping_found version r q m e =
     let a = bind_ok (line_at r) (λ first. mapping_behind (is_domain version (pieces 32 first.0)) r.number (pieces 32 first.0) first.1) (m, q) e in
     let ws = pieces 32 a.0.0 in
-    let read = behind_found version (is_domain version ws) r.number ws a.0.1 (m, q) (domain_is_second version ws) a.2 in
+    let read = behind_found version (is_domain version ws) r.number ws a.0.1 (m, q) (domain_is_lawful version ws) a.2 in
     let first = one_line r a.0.1 a.0.0 ws a.1 refl in (
       subst (λ (ls : List (List (List ℕ))). Takes r ls q) (sym read.lines_are) (Takes-then r a.0.1 q (ws ∷ []) read.behind first read.taken),
       read.lawful,

@@ -11,6 +11,11 @@ pub bind_ok : {A B : Type 0} (r : Result A CertFault) (f : A → Result B CertFa
 bind_ok (Ok x) f y e = (x, refl, e)
 bind_ok (Err d) f y e = absurd cc
 
+-- what follows from the value of the first step
+pub bind_by : {A B : Type 0} (r : Result A CertFault) (f : A → Result B CertFault) (y : B) (P : Type 0) → (r >>= f) ≡ Ok y → ((x : A) → r ≡ Ok x → f x ≡ Ok y → P) → P
+bind_by (Ok x) f y P e h = h x refl e
+bind_by (Err d) f y P e h = absurd cc
+
 pub formed_ok : {A : Type 0} (line : ℕ) (b : Bool) (x y : A) → formed line b x ≡ Ok y → (b ≡ true) × (x ≡ y)
 formed_ok line true x y e = (refl, cc)
 formed_ok line false x y e = absurd cc
@@ -88,7 +93,7 @@ filled_length n [] m e = let same = some_is n m e in omega arith
 filled_length n ([] ∷ ws) m e = absurd cc
 filled_length n ((b ∷ bs) ∷ ws) m e = let l = filled_length (n + 1) ws m e in omega arith
 
-width_by : (w : ℕ) (o : Option ℕ) → has_width (Some w) o ≡ true → (m : ℕ) × (o ≡ Some m) × (m ≡ w + 1)
+pub width_by : (w : ℕ) (o : Option ℕ) → has_width (Some w) o ≡ true → (m : ℕ) × (o ≡ Some m) × (m ≡ w + 1)
 width_by w None e = absurd cc
 width_by w (Some m) e = (m, refl, eq_is m (w + 1) e)
 

@@ -1,4 +1,5 @@
 pub mod Spelling
+pub mod Lamp
 pub mod Pieces
 pub mod Reading
 pub mod Cursors

@@ -1,16 +1,16 @@
 -- Reading line by line, as a function on lists, with the first fault that is found. On one line a missing line feed
 -- comes before all other faults, a wrong form before a wrong number, a wrong number before a wrong order, and that
 -- before wrong classes.
-use Rattle.std.specs.Prelude.{◌≡◌, ℕ, zero, suc, ◌+◌, ◌*◌, ◌-◌, ◌^◌, Bool, true, false, not, ◌==◌, ◌&&◌, nat_le, nat_lt, if◌then◌else◌, List, [], ◌∷◌, ◌++◌, length, map, Option, Some, None, option_map, Result, Ok, Err, codes}
+use Rattle.std.specs.Prelude.{◌≡◌, ℕ, zero, suc, ◌+◌, ◌*◌, ◌-◌, ◌^◌, Bool, true, false, not, ◌==◌, ◌&&◌, ◌||◌, nat_le, nat_lt, if◌then◌else◌, List, [], ◌∷◌, ◌++◌, length, map, Option, Some, None, option_map, Result, Ok, Err, codes}
 use Rattle.std.specs.Str.{bytes_eq}
-use Rattle.std.specs.List.{list_all}
+use Rattle.std.specs.List.{list_all, list_any}
 use Rattle.cost.specs.Distances.{Distance, Finite, Infinite}
 use Rattle.cert_text.specs.declared.fault.CertFault.{CertFault}
 use Rattle.cert_text.specs.declared.fault.CertFault.TheVariants as fault
-use Rattle.abstraction_domain.specs.Rows.{Row, are_numbered}
+use Rattle.abstraction_domain.specs.Rows.{Row, are_numbered, shares_class}
 use Rattle.abstraction_mapping.specs.Mappings.{Mapping, Pattern, Domains}
 use Rattle.cert_value.specs.declared.certificate.Version.{Version}
-use Rattle.cert_value.specs.declared.certificate.Version.TheVariants.{One, Two}
+use Rattle.cert_value.specs.declared.certificate.Version.TheVariants.{One, Two, Three}
 use Rattle.cert_value.specs.declared.table.Share.{Share}
 use Rattle.cert_value.specs.Certificates.{Kind, FiniteDomain, Planning, Variable, Table, Entry, CertificateValue, width_of}
 use Rattle.cert_text.specs.Pieces.{pieces}
@@ -179,6 +179,12 @@ agrees pairs None count = false
 agrees pairs (Some words) None = true
 agrees pairs (Some words) (Some count) = words == 2 + (if pairs then count + count else count)
 
+-- the words are one and after it as many as `count` says, if that is a number
+abbrev pub has_width : Option ℕ → Option ℕ → Bool
+has_width count None = false
+has_width None (Some words) = true
+has_width (Some count) (Some words) = words == count + 1
+
 -- the first word of a line, the count after it, and the words after the count
 pub record Counted : Type 0 where
   pub first : List ℕ
@@ -202,7 +208,8 @@ unfoldable pub header_at : Remaining → Result (Version × Remaining) CertFault
 header_at r = do
   l ← line_at r
   if bytes_eq l.0 (codes "optplan-cert 1") then Ok (One, l.1)
-      else (if bytes_eq l.0 (codes "optplan-cert 2") then Ok (Two, l.1) else Err fault.Header)
+      else (if bytes_eq l.0 (codes "optplan-cert 2") then Ok (Two, l.1)
+      else (if bytes_eq l.0 (codes "optplan-cert 3") then Ok (Three, l.1) else Err fault.Header))
 
 -- whether the certificate is for a planning task
 unfoldable pub kind_at : Remaining → Result (Bool × Remaining) CertFault
@@ -272,6 +279,50 @@ parts_at true r = do
   variables ← variables_at (length atoms.0) atoms.1
   Ok (Planning atoms.0 variables.0, variables.1)
 
+-- the first word of a line is the count of those after it; a count that is not a number is accepted
+abbrev pub sized_of : ℕ → List (List ℕ) → Result (List ℕ × List (List ℕ)) CertFault
+sized_of line [] = Err (fault.Expected line)
+sized_of line (c ∷ ws) = formed line (has_width (number c) (filled (c ∷ ws))) (c, ws)
+
+-- the classes of the values of a variable
+unfoldable pub classes_of : ℕ → List (List ℕ) → Result (List ℕ) CertFault
+classes_of line words = do
+  form ← sized_of line words
+  count ← numbered line (number_in 1 (2 ^ 32) form.0)
+  classes ← numbered line (numbers_in (2 ^ 32) form.1)
+  classified line (are_numbered classes) classes
+
+-- whether two values must share a class in the row after these, of `count` rows in all: it is the last row, and no two
+-- values do in a row before it
+abbrev pub must_share : ℕ → List (List ℕ) → Bool
+must_share count rows = not (list_any shares_class rows) && (length rows + 1 == count)
+
+-- the classes of the values of a variable, two of which must share one if `must` is set
+unfoldable pub sharing_of : Bool → ℕ → List (List ℕ) → Result (List ℕ) CertFault
+sharing_of must line words = do
+  classes ← classes_of line words
+  classified line (not must || shares_class classes) classes
+
+unfoldable pub sharing_at : Bool → Remaining → Result (List ℕ × Remaining) CertFault
+sharing_at must r = do
+  l ← line_at r
+  classes ← sharing_of must r.number (pieces 32 l.0)
+  Ok (classes, l.1)
+
+unfoldable pub classes_step : ℕ → List (List ℕ) → Remaining → Result (List (List ℕ) × Remaining) CertFault
+classes_step count rows r = sharing_at (must_share count rows) r >>= λ x. Ok (rows ++ x.0 ∷ [], x.1)
+
+unfoldable pub all_classes_at : Remaining → Result (List (List ℕ) × Remaining) CertFault
+all_classes_at r = do
+  count ← count_at (codes "classes") 1 (2 ^ 32) r
+  repeated (classes_step count.0) count.0 [] count.1
+
+-- the classes of the values of all variables, which only version 3 has
+unfoldable pub classes_at : Version → Remaining → Result (List (List ℕ) × Remaining) CertFault
+classes_at One r = Ok ([], r)
+classes_at Two r = Ok ([], r)
+classes_at Three r = all_classes_at r
+
 unfoldable pub pattern_of : ℕ → List (List ℕ) → Result (List ℕ) CertFault
 pattern_of line words = do
   form ← headed_of line (codes "table") false words
@@ -311,11 +362,16 @@ rows_at line words r = do
   count ← numbered line (number_in 1 (2 ^ 32) word)
   repeated row_step count [] r
 
+-- whether the first of the words is the keyword
+abbrev pub begins_with : List ℕ → List (List ℕ) → Bool
+begins_with keyword [] = false
+begins_with keyword (w ∷ ws) = bytes_eq w keyword
+
 -- whether the words are the first line of a domain abstraction, which version 1 does not have
 abbrev pub is_domain : Version → List (List ℕ) → Bool
 is_domain One words = false
-is_domain Two [] = false
-is_domain Two (w ∷ ws) = bytes_eq w (codes "domain")
+is_domain Two words = begins_with (codes "domain") words
+is_domain Three words = begins_with (codes "domain") words
 
 unfoldable pub mapping_behind : Bool → ℕ → List (List ℕ) → Remaining → Result (Mapping × Remaining) CertFault
 mapping_behind true line words r = do
@@ -362,12 +418,6 @@ columns_at version r = do
   count ← count_at (codes "columns") 0 65 r
   repeated (behind (column_at version)) count.0 [] count.1
 
--- the words are a cost and as many values as the states before have
-abbrev pub has_width : Option ℕ → Option ℕ → Bool
-has_width width None = false
-has_width None (Some words) = true
-has_width (Some width) (Some words) = words == width + 1
-
 abbrev pub entry_numbers : ℕ → List (List ℕ) → Result Entry CertFault
 entry_numbers line [] = Err (fault.Expected line)
 entry_numbers line (g ∷ ws) = do
@@ -375,7 +425,7 @@ entry_numbers line (g ∷ ws) = do
   state ← numbered line (numbers_in (2 ^ 32) ws)
   Ok (record { cost = cost; state = state })
 
--- an entry whose state has the given number of values, or any number
+-- an entry whose state has as many values as the states before, if there are any
 unfoldable pub entry_of : Option ℕ → ℕ → List (List ℕ) → Result Entry CertFault
 entry_of width line words = do
   form ← formed line (has_width width (filled words)) words
@@ -414,10 +464,11 @@ certificate_at r = do
   planning ← kind_at header.1
   bound ← bound_at planning.1
   kind ← parts_at planning.0 bound.1
-  columns ← columns_at header.0 kind.1
+  classes ← classes_at header.0 kind.1
+  columns ← columns_at header.0 classes.1
   closed ← closed_at columns.1
   end ← end_at closed.1
-  Ok (record { version = header.0; kind = kind.0; bound = bound.0; columns = columns.0; closed = closed.0 })
+  Ok (record { version = header.0; kind = kind.0; bound = bound.0; classes = classes.0; columns = columns.0; closed = closed.0 })
 
 -- the certificate of a text, or its first fault
 unfoldable pub certificate_of : List ℕ → Result CertificateValue CertFault

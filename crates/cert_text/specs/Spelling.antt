@@ -5,7 +5,7 @@ use Rattle.cost.specs.Distances.{distance_text}
 use Rattle.abstraction_domain.specs.Rows.{Row}
 use Rattle.abstraction_mapping.specs.Mappings.{Mapping, Pattern, Domains}
 use Rattle.cert_value.specs.declared.certificate.Version.{Version}
-use Rattle.cert_value.specs.declared.certificate.Version.TheVariants.{One, Two}
+use Rattle.cert_value.specs.declared.certificate.Version.TheVariants.{One, Two, Three}
 use Rattle.cert_value.specs.declared.table.Share.{Share}
 use Rattle.cert_value.specs.Certificates.{Kind, FiniteDomain, Planning, Variable, Table, Entry, CertificateValue}
 use Rattle.cert_text.specs.Pieces.{joined}
@@ -37,6 +37,15 @@ share_words s = decimal s.operator ∷ decimal s.amount ∷ []
 
 abbrev pub pattern_line : List ℕ → List (List ℕ)
 pattern_line pattern = counted (codes "table") (length pattern) (map decimal pattern)
+
+-- the number of values of a variable, and the class of each of them
+abbrev pub classes_line : List ℕ → List (List ℕ)
+classes_line classes = decimal (length classes) ∷ map decimal classes
+
+-- the lines of the classes of the values of all variables, if there are any
+abbrev pub classes_lines : List (List ℕ) → List (List (List ℕ))
+classes_lines [] = []
+classes_lines (row ∷ rows) = counted (codes "classes") (length (row ∷ rows)) [] ∷ map classes_line (row ∷ rows)
 
 -- a variable, the number of its values, and the class of each of them
 abbrev pub row_line : Row → List (List ℕ)
@@ -70,6 +79,7 @@ closed_lines entries = counted (codes "closed") (length entries) [] ∷ map entr
 abbrev pub version_text : Version → List ℕ
 version_text One = codes "1"
 version_text Two = codes "2"
+version_text Three = codes "3"
 
 -- the lines of a certificate, each a list of words
 abbrev pub lines : CertificateValue → List (List (List ℕ))
@@ -78,6 +88,7 @@ lines c =
     ∷ kind_line c.kind
     ∷ (codes "bound" ∷ distance_text c.bound ∷ [])
     ∷ kind_lines c.kind
+    ++ classes_lines c.classes
     ++ columns_lines c.columns
     ++ closed_lines c.closed
     ++ (codes "end" ∷ []) ∷ []

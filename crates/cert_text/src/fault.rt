@@ -16,7 +16,7 @@ pub enum CertFault {
     /// Allocation failed. This says nothing about the text.
     #[error("out of memory")]
     OutOfMemory,
-    /// F50: the first line is neither `optplan-cert 1` nor `optplan-cert 2`.
+    /// F50: the first line is none of `optplan-cert 1`, `optplan-cert 2` and `optplan-cert 3`.
     #[error("F50 Header cert")]
     Header,
     /// F51: a line with another keyword than required, with a separator too many or too few, with a byte that no word
@@ -36,7 +36,8 @@ pub enum CertFault {
     #[error("F55 Order cert {0}")]
     Order(usize),
     /// F57: classes that are not numbered in the order of their first occurrences in their line: one is neither a class
-    /// that occurs earlier there nor the least number that does not.
+    /// that occurs earlier there nor the least number that does not. In version 3 also the last line of the classes of
+    /// the task, if no two values of a variable share a class.
     #[error("F57 Classes cert {0}")]
     Classes(usize),
     /// F56: more than 1,073,741,824 bytes.

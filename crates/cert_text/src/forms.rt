@@ -2,7 +2,7 @@
 
 ghost use Rattle.std.specs.Prelude.{◌≡◌, ◌^◌, ◌<◌, ◌≤◌, ◌+◌, option_map, min, IfOk};
 ghost use Rattle.cert_text.specs.Pieces.{pieces};
-ghost use Rattle.cert_text.specs.Reading.{Gives, number, agrees, counted_of, headed_of, second_of, fixed_at, count_at};
+ghost use Rattle.cert_text.specs.Reading.{Gives, number, agrees, has_width, counted_of, headed_of, sized_of, second_of, fixed_at, count_at};
 ghost use Rattle.cert_text.specs.Cursors.{left, remaining, counted};
 
 use crate::fault::CertFault;
@@ -117,6 +117,34 @@ pub(crate) fn counted_line(
             count,
             words: behind,
         })
+    } else {
+        Err(CertFault::Expected(number))
+    }
+}
+
+/// Returns whether the words after the first are as many as it states. `words` is the number of words, or `None` if one
+/// of them is empty, which is refused. A count that is not a number is accepted here.
+fn size_agrees(words: Option<usize>, count: &[u8]) -> bool
+    ensures { result ≡ has_width (number count.now) words }
+{
+    match (words, number_of(count)) {
+        (None, _) => false,
+        (Some(_), None) => true,
+        (Some(words), Some(count)) => 0 < words && words as u64 - 1 == count,
+    }
+}
+
+/// Returns the first word of a line and the words after it, if they are as many as the first word states. A count that
+/// is not a number is not compared.
+pub(crate) fn sized_line(line: &[u8], number: usize) -> Result<(&[u8], Words<'_>), CertFault>
+    ensures { Gives (λ x. (x.0.now, left x.1)) result (sized_of number (pieces 32 line.now)) }
+{
+    let words = Words::new(line);
+    let Some((count, behind)) = words.first() else {
+        return Err(CertFault::Expected(number));
+    };
+    if size_agrees(words.filled(), count) {
+        Ok((count, behind))
     } else {
         Err(CertFault::Expected(number))
     }

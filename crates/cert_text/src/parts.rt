@@ -3,13 +3,14 @@
 ghost use Rattle.std.specs.Prelude.{◌≡◌, ℕ, ◌<◌, ◌^◌, map, Ok, IfOk, IfSome};
 ghost use Rattle.std.specs.List.{list_all};
 ghost use Rattle.cert_text.specs.Pieces.{pieces};
-ghost use Rattle.cert_text.specs.Reading.{Gives, is_printed, is_atom_word, atom_of, variable_of, pattern_of, row_of, is_domain, shares_of, values_of, entry_of, has_width};
+ghost use Rattle.cert_text.specs.Reading.{Gives, is_printed, is_atom_word, atom_of, variable_of, classes_of, sharing_of, pattern_of, row_of, begins_with, is_domain, shares_of, values_of, entry_of, has_width};
 ghost use Rattle.cert_text.specs.Cursors.{left, remaining};
+ghost use Rattle.abstraction_domain.specs.Rows.{shares_class};
 ghost use Rattle.cert_value.specs.Views as view;
 ghost use Rattle.std.specs.String.{string_bytes};
 
 use crate::fault::CertFault;
-use crate::forms::{counted_line, headed_line};
+use crate::forms::{counted_line, headed_line, sized_line};
 use crate::lines::Lines;
 use crate::numbers::{
     distances, first_number, increases, number_within, operators_increase, read_numbers, shares,
@@ -88,6 +89,56 @@ pub(crate) fn variable_line(
     })
 }
 
+/// Returns the row of a variable, of which the line has the classes. `number` is the number of the line.
+#[tactic(auto, using(crate::proofs::RowLaws::numbered_test, crate::proofs::RowLaws::misnumbered_test), unfolding(crate::specs::Reading::classes_of))]
+fn classes_line(
+    alloc: Global,
+    line: &[u8],
+    variable: usize,
+    number: usize,
+) -> Result<ClassRow, CertFault>
+    ensures classes { Gives (λ r. r.classes) result (classes_of number (pieces 32 line.now)) }
+    ensures variable { IfOk result (λ r. r.variable ≡ variable) }
+{
+    let (count, words) = sized_line(line, number)?;
+    if number_within(count, 1, SHORT).is_none() {
+        return Err(CertFault::Number(number));
+    }
+    let mut classes = Vec::new(alloc);
+    read_numbers(&mut classes, words, SHORT, number)?;
+    let Ok(row) = ClassRow::new(variable, classes) else {
+        return Err(CertFault::Classes(number));
+    };
+    Ok(row)
+}
+
+/// Returns whether two values of the variable of a row share a class.
+pub(crate) fn shares_class(row: &ClassRow) -> bool
+    ensures { result ≡ shares_class row.now.classes }
+{
+    row.class_count() < row.classes().len()
+}
+
+/// Returns the row of a variable, of which the line has the classes. Two values must share a class if `must` is set.
+/// `number` is the number of the line.
+#[tactic(auto, unfolding(crate::specs::Reading::sharing_of))]
+pub(crate) fn sharing_line(
+    alloc: Global,
+    line: &[u8],
+    variable: usize,
+    must: bool,
+    number: usize,
+) -> Result<ClassRow, CertFault>
+    ensures classes { Gives (λ r. r.classes) result (sharing_of must number (pieces 32 line.now)) }
+    ensures variable { IfOk result (λ r. r.variable ≡ variable) }
+{
+    let row = classes_line(alloc, line, variable, number)?;
+    if must && !shares_class(&row) {
+        return Err(CertFault::Classes(number));
+    }
+    Ok(row)
+}
+
 /// Returns the pattern of a table.
 #[tactic(auto, unfolding(crate::specs::Reading::pattern_of))]
 pub(crate) fn pattern_line(alloc: Global, line: &[u8], number: usize) -> Result<Vec<u32>, CertFault>
@@ -106,16 +157,23 @@ pub(crate) fn pattern_line(alloc: Global, line: &[u8], number: usize) -> Result<
     }
 }
 
+/// Returns whether the first word of the line is the keyword.
+fn begins_with(line: &[u8], keyword: &[u8]) -> bool
+    ensures { result ≡ begins_with keyword.now (pieces 32 line.now) }
+{
+    match Words::new(line).first() {
+        Some((word, _)) => word == keyword,
+        None => false,
+    }
+}
+
 /// Returns whether the line is the first of a domain abstraction, which version 1 does not have.
 pub(crate) fn is_domain(version: Version, line: &[u8]) -> bool
     ensures { result ≡ is_domain version (pieces 32 line.now) }
 {
     match version {
         Version::One => false,
-        Version::Two => match Words::new(line).first() {
-            Some((word, _)) => word == b"domain".as_slice(),
-            None => false,
-        },
+        Version::Two | Version::Three => begins_with(line, b"domain"),
     }
 }
 

@@ -1,13 +1,17 @@
 //! Reading a certificate.
 
 ghost use Rattle.std.specs.Prelude.{◌≡◌, ◌<◌, ◌≤◌, ◌^◌, IfOk, Ok, length, map};
+ghost use Rattle.std.specs.List.{range_with_len};
+ghost use Rattle.abstraction_domain.specs.Domains.{variables};
 ghost use Rattle.cert_value.specs.Certificates.{CertificateValue};
 ghost use Rattle.cert_text.specs.Spelling.{spelling};
 ghost use Rattle.cert_value.specs.Lawful.{IsLawful};
-ghost use Rattle.cert_text.specs.Reading.{Gives, header_at, kind_at, bound_of, atoms_at, variables_at, parts_at, rows_at, mapping_at, table_at, column_at, columns_at, closed_at, end_at, certificate_at, certificate_of};
+ghost use Rattle.cert_text.specs.Reading.{Gives, header_at, kind_at, bound_of, atoms_at, variables_at, parts_at, all_classes_at, classes_at, rows_at, mapping_at, table_at, column_at, columns_at, closed_at, end_at, certificate_at, certificate_of};
 ghost use Rattle.cert_text.specs.Pieces.{pieces};
 ghost use Rattle.cert_text.specs.Cursors.{remaining};
 ghost use Rattle.abstraction_mapping.specs.Views.{mapping_of};
+ghost use Rattle.abstraction_domain.specs.Rows.{classes_in};
+ghost use Rattle.cert_value.specs.Classes.{AreRowsOf};
 ghost use Rattle.cert_value.specs.Views as view;
 
 use crate::fault::CertFault;
@@ -15,8 +19,8 @@ use crate::forms::{count_line, fixed_line, second_word};
 use crate::lines::Lines;
 use crate::numbers::{distance_within, number_within};
 use crate::parts::{
-    SHORT, atom_words, entry_line, is_domain, pattern_line, row_line, shares_line, values_line,
-    variable_line,
+    SHORT, atom_words, entry_line, is_domain, pattern_line, row_line, shares_class, shares_line,
+    sharing_line, values_line, variable_line,
 };
 use abstraction_domain::ClassRow;
 use abstraction_mapping::Mapping;
@@ -38,6 +42,8 @@ fn header(lines: Lines<'_>) -> Result<(Version, Lines<'_>), CertFault>
         Ok((Version::One, rest))
     } else if line == b"optplan-cert 2".as_slice() {
         Ok((Version::Two, rest))
+    } else if line == b"optplan-cert 3".as_slice() {
+        Ok((Version::Three, rest))
     } else {
         Err(CertFault::Header)
     }
@@ -119,6 +125,44 @@ fn parts(
     let (atoms, lines) = atoms(alloc, lines)?;
     let (variables, lines) = variables(alloc, atoms.len() as u64, lines)?;
     Ok((CertificateKind::Pddl(AtomParts { atoms, variables }), lines))
+}
+
+/// Reads the classes of the values of all variables.
+#[tactic(auto, using(crate::proofs::Repeating::looping), unfolding(crate::specs::Reading::all_classes_at, crate::specs::Reading::classes_step, crate::specs::Reading::sharing_at))]
+fn all_classes(alloc: Global, lines: Lines<'_>) -> Result<(Vec<ClassRow>, Lines<'_>), CertFault>
+    ensures classes { Gives (λ x. (classes_in x.0.items, remaining x.1)) result (all_classes_at (remaining lines.entry)) }
+    ensures variables { IfOk result (λ x. variables x.0.items ≡ range_with_len 0 (length x.0.items)) }
+    ensures some { IfOk result (λ x. 0 < length x.0.items) }
+{
+    let (count, first) = count_line(lines, b"classes", 1, SHORT)?;
+    let mut next = first;
+    let mut rows = Vec::new(alloc);
+    let mut shared = false;
+    for variable in 0..count {
+        let (line, rest) = next.first()?;
+        let must = !shared && variable + 1 == count;
+        let row = sharing_line(alloc, line, variable as usize, must, next.number)?;
+        shared = shared || shares_class(&row);
+        rows.push(row)?;
+        next = rest;
+    }
+    Ok((rows, next))
+}
+
+/// Reads the classes of the values of all variables, if the version has them.
+#[tactic(auto, unfolding(crate::specs::Reading::classes_at))]
+fn classes(
+    alloc: Global,
+    version: Version,
+    lines: Lines<'_>,
+) -> Result<(Vec<ClassRow>, Lines<'_>), CertFault>
+    ensures classes { Gives (λ x. (classes_in x.0.items, remaining x.1)) result (classes_at version (remaining lines.entry)) }
+    ensures rows { IfOk result (λ x. AreRowsOf version x.0.items) }
+{
+    match version {
+        Version::One | Version::Two => Ok((Vec::new(alloc), lines)),
+        Version::Three => all_classes(alloc, lines),
+    }
 }
 
 /// Reads the rows of a domain abstraction, as many as its first line states. `number` is the number of that line, and
@@ -258,6 +302,26 @@ fn end(lines: Lines<'_>) -> Result<(), CertFault>
     }
 }
 
+/// Returns the certificate with these parts.
+fn with_parts(
+    version: Version,
+    kind: CertificateKind,
+    bound: Dist,
+    classes: Vec<ClassRow>,
+    columns: Vec<Vec<AbstractionTable>>,
+    closed: ClosedList,
+) -> Certificate
+    requires { AreRowsOf version classes.items }
+    ensures { result ≡ record { version = version; kind = view.kind_of kind; bound = bound; classes = classes_in classes.items; columns = view.columns_of columns.items; closed = closed } }
+{
+    match version {
+        Version::One | Version::Two => Certificate::new(version, kind, bound, columns, closed),
+        Version::Three => {
+            Certificate::new(Version::Two, kind, bound, columns, closed).with_classes(classes)
+        }
+    }
+}
+
 #[tactic(auto, unfolding(crate::specs::Reading::certificate_at, crate::specs::Reading::bound_at))]
 fn certificate(alloc: Global, lines: Lines<'_>) -> Result<Certificate, CertFault>
     ensures { Gives (λ c. c) result (certificate_at (remaining lines.entry)) }
@@ -267,10 +331,11 @@ fn certificate(alloc: Global, lines: Lines<'_>) -> Result<Certificate, CertFault
     let (line, rest) = lines.first()?;
     let bound = bound_line(line, lines.number)?;
     let (kind, lines) = parts(alloc, planning, rest)?;
+    let (classes, lines) = classes(alloc, version, lines)?;
     let (columns, lines) = columns(alloc, version, lines)?;
     let (closed, lines) = closed(alloc, lines)?;
     end(lines)?;
-    Ok(Certificate::new(version, kind, bound, columns, closed))
+    Ok(with_parts(version, kind, bound, classes, columns, closed))
 }
 
 /// Reads the certificate that the text spells. Fails with the first fault of the text, as `CertFault` orders them, or

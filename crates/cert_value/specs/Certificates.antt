@@ -28,10 +28,13 @@ pub record Entry : Type 0 where
   pub cost : ℕ
   pub state : List ℕ
 
+-- in version 3 the classes of the values of each variable of the task, in the order of the variables, and the columns
+-- and closed states of the reduced task; without classes those of the task itself
 pub record CertificateValue : Type 0 where
   pub version : Version
   pub kind : Kind
   pub bound : Distance
+  pub classes : List (List ℕ)
   pub columns : List (List Table)
   pub closed : List Entry
 

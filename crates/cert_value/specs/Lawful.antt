@@ -1,12 +1,12 @@
 -- Which certificates have a text: each number is within its limit, and lists that must be strictly increasing are.
 use Rattle.std.specs.Prelude.{◌≡◌, ◌≢◌, ℕ, ◌<◌, ◌≤◌, ◌^◌, true, List, [], ◌∷◌, length, map}
-use Rattle.std.specs.List.{AllByRecursion}
+use Rattle.std.specs.List.{list_any, AllByRecursion}
 use Rattle.cost.specs.Distances.{Distance, IsWithin}
-use Rattle.abstraction_domain.specs.Rows.{Row, are_numbered}
+use Rattle.abstraction_domain.specs.Rows.{Row, are_numbered, shares_class}
 use Rattle.abstraction_domain.specs.Domains.{variables}
 use Rattle.abstraction_mapping.specs.Mappings.{Mapping, Pattern, Domains}
 use Rattle.cert_value.specs.declared.certificate.Version.{Version}
-use Rattle.cert_value.specs.declared.certificate.Version.TheVariants.{One, Two}
+use Rattle.cert_value.specs.declared.certificate.Version.TheVariants.{One, Two, Three}
 use Rattle.cert_value.specs.declared.table.Share.{Share}
 use Rattle.cert_value.specs.Certificates.{Kind, FiniteDomain, Planning, Variable, Table, Entry, CertificateValue}
 
@@ -73,11 +73,31 @@ pub record AreRows (rows : List Row) : Type 0 where
   pub each : AllByRecursion IsRow rows
   pub increasing : IsIncreasing (variables rows)
 
+-- the class of each value of a variable, the classes numbered in the order of their first occurrences
+pub record AreClasses (classes : List ℕ) : Type 0 where
+  pub some : classes ≢ []
+  pub few : IsShort (length classes)
+  pub each : AllByRecursion IsShort classes
+  pub numbered : are_numbered classes ≡ true
+
+-- the classes of the values of all variables: two values of some variable share a class
+pub record AreClassesOfAll (rows : List (List ℕ)) : Type 0 where
+  pub few : IsShort (length rows)
+  pub each : AllByRecursion AreClasses rows
+  pub shared : list_any shares_class rows ≡ true
+
+-- versions 1 and 2 have no classes
+abbrev pub AreLawfulClasses : Version → List (List ℕ) → Type 0
+AreLawfulClasses One rows = rows ≡ []
+AreLawfulClasses Two rows = rows ≡ []
+AreLawfulClasses Three rows = AreClassesOfAll rows
+
 -- version 1 has only patterns
 abbrev pub IsLawfulMapping : Version → Mapping → Type 0
 IsLawfulMapping version (Pattern pattern) = IsPattern pattern
 IsLawfulMapping One (Domains rows) = ⊥
 IsLawfulMapping Two (Domains rows) = AreRows rows
+IsLawfulMapping Three (Domains rows) = AreRows rows
 
 pub record AreShares (shares : List Share) : Type 0 where
   pub few : IsShort (length shares)
@@ -117,5 +137,6 @@ pub record AreEntries (entries : List Entry) : Type 0 where
 pub record IsLawful (c : CertificateValue) : Type 0 where
   pub kind : IsLawfulKind c.kind
   pub bound : IsWithin (2 ^ 62) c.bound
+  pub classes : AreLawfulClasses c.version c.classes
   pub columns : AreColumns c.version c.columns
   pub closed : AreEntries c.closed

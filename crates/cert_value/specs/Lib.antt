@@ -1,4 +1,5 @@
 pub mod Certificates
+pub mod Classes
 pub mod Kept
 pub mod Views
 pub mod Lawful

@@ -47,6 +47,24 @@ impl ClosedList {
         }
     }
 
+    /// Returns an empty list with memory for `count` states of `width` values each, all below 2^16.
+    pub fn with_capacity(
+        alloc: Global,
+        count: usize,
+        width: usize,
+    ) -> Result<ClosedList, AllocError>
+        ensures { IfOk result (λ closed. closed ≡ []) }
+    {
+        let costs = Vec::with_capacity(alloc, count)?;
+        let values = Numbers::with_capacity(alloc, count.saturating_mul(width))?;
+        Ok(ClosedList {
+            alloc,
+            costs,
+            width: 0,
+            values,
+        })
+    }
+
     /// Returns the number of states.
     pub fn len(&self) -> usize
         ensures { result ≡ length self.now }

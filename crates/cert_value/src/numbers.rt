@@ -1,6 +1,6 @@
 //! The values of the states of a closed list.
 
-ghost use Rattle.std.specs.Prelude.{◌≡◌, ◌<◌, ◌+◌, ◌*◌, ◌^◌, ◌≤◌, ◌++◌, [], ◌∷◌, length, take, drop, nat_eq, All, OnOk, OnErr, IfOk};
+ghost use Rattle.std.specs.Prelude.{◌≡◌, ◌<◌, ◌+◌, ◌*◌, ◌^◌, ◌≤◌, ◌++◌, [], ◌∷◌, length, take, drop, nat_eq, All, OnOk, OnErr, IfOk, MatchBool};
 ghost use Rattle.std.specs.Cmp.Lexicographic.{pointwise};
 
 use std::alloc::{AllocError, Global};
@@ -41,16 +41,51 @@ pub fn short_numbers(alloc: Global, numbers: &[usize]) -> Result<Vec<u32>, Alloc
     Ok(short)
 }
 
-/// Returns the numbers followed by `last`, with 4 bytes each.
-fn longer(alloc: Global, numbers: &[u16], last: u32) -> Result<Vec<u32>, AllocError>
-    ensures { IfOk result (λ all. all.items ≡ numbers.now ++ last ∷ []) }
+/// Returns the numbers followed by `more`, with 4 bytes each.
+fn longer(alloc: Global, numbers: &[u16], more: &[u32]) -> Result<Vec<u32>, AllocError>
+    ensures { IfOk result (λ all. all.items ≡ numbers.now ++ more.now) }
 {
-    let mut all = Vec::new(alloc);
+    let mut all = Vec::with_capacity(alloc, numbers.len() + more.len())?;
     for number in numbers {
         all.push(u32::from(*number))?;
     }
-    all.push(last)?;
+    all.extend_from_slice(more)?;
     Ok(all)
+}
+
+/// Returns whether all numbers are below 2^16. The loop has no early exit, so that it becomes vector code: with few
+/// instructions for each state, the cache misses of successive states overlap.
+fn are_short(numbers: &[u32]) -> bool
+    ensures { MatchBool result (All (λ n. n < 2 ^ 16) numbers.now) (¬ All (λ n. n < 2 ^ 16) numbers.now) }
+{
+    let mut greatest = 0u32;
+    for number in numbers {
+        greatest = greatest.max(*number);
+    }
+    greatest <= u32::from(u16::MAX)
+}
+
+/// Appends numbers below 2^16. On failure the list is unchanged.
+fn append_short(numbers: &mut Vec<u16>, more: &[u32]) -> Result<(), AllocError>
+    requires { All (λ n. n < 2 ^ 16) more.now }
+    ensures ok { OnOk result (numbers.new.items ≡ numbers.old.items ++ more.now) }
+    ensures err { OnErr result (numbers.new.items ≡ numbers.old.items) }
+{
+    let before = numbers.len();
+    numbers.resize(before + more.len(), 0)?;
+    shorten(more, &mut numbers[before..]);
+    Ok(())
+}
+
+/// Copies numbers below 2^16 into a buffer of the same length.
+fn shorten(numbers: &[u32], into: &mut [u16])
+    requires len { length numbers.now ≡ length into.old }
+    requires short { All (λ n. n < 2 ^ 16) numbers.now }
+    ensures { into.new ≡ numbers.now }
+{
+    for place in 0..into.len() {
+        into[place] = numbers[place] as u16;
+    }
 }
 
 impl Numbers {
@@ -63,6 +98,16 @@ impl Numbers {
         }
     }
 
+    /// Returns an empty list with memory for `len` numbers below 2^16.
+    pub(crate) fn with_capacity(alloc: Global, len: usize) -> Result<Numbers, AllocError>
+        ensures { IfOk result (λ numbers. numbers ≡ []) }
+    {
+        let numbers = Vec::with_capacity(alloc, len)?;
+        Ok(Numbers {
+            kept: Kept::Short(numbers),
+        })
+    }
+
     /// Returns the length of the list.
     pub(crate) fn len(&self) -> usize
         ensures { result ≡ length self.now }
@@ -71,24 +116,6 @@ impl Numbers {
             Kept::Short(numbers) => numbers.len(),
             Kept::Long(numbers) => numbers.len(),
         }
-    }
-
-    /// Appends a number. On failure the list is unchanged.
-    pub(crate) fn push(&mut self, alloc: Global, number: u32) -> Result<(), AllocError>
-        ensures ok { OnOk result (self.new ≡ self.old ++ number ∷ []) }
-        ensures err { OnErr result (self.new ≡ self.old) }
-    {
-        match &mut self.kept {
-            Kept::Short(numbers) => match u16::try_from(number) {
-                Ok(short) => numbers.push(short)?,
-                Err(_) => {
-                    let all = longer(alloc, numbers, number)?;
-                    self.kept = Kept::Long(all);
-                }
-            },
-            Kept::Long(numbers) => numbers.push(number)?,
-        }
-        Ok(())
     }
 
     /// Truncates the list to its first `len` numbers.
@@ -106,12 +133,16 @@ impl Numbers {
         ensures ok { OnOk result (self.new ≡ self.old ++ more.now) }
         ensures err { OnErr result (self.new ≡ self.old) }
     {
-        let before = self.len();
-        for number in more {
-            if self.push(alloc, *number).is_err() {
-                self.truncate(before);
-                return Err(AllocError);
+        match &mut self.kept {
+            Kept::Short(numbers) => {
+                if are_short(more) {
+                    append_short(numbers, more)?;
+                } else {
+                    let all = longer(alloc, numbers, more)?;
+                    self.kept = Kept::Long(all);
+                }
             }
+            Kept::Long(numbers) => numbers.extend_from_slice(more)?,
         }
         Ok(())
     }

@@ -4,7 +4,7 @@ use Rattle.cost.specs.Distances.{Distance, Finite, Infinite}
 use Rattle.fdr.specs.Tasks.{FiniteDomainTask}
 use Rattle.cert_value.specs.Certificates.{CertificateValue}
 use Rattle.checker_clauses.specs.declared.violation.Violation.{Violation}
-use Rattle.checker_clauses.specs.Violations.{IsMet, IsFirstViolation, IsHeld, violation_text}
+use Rattle.checker_clauses.specs.Violations.{clause_of, IsMet, IsFirstOfClause, IsFirstViolation, IsHeld, violation_text}
 use Rattle.checker.specs.declared.verdict.Verdict.{Verdict}
 use Rattle.checker.specs.declared.verdict.Verdict.TheVariants.{Accepted, Rejected}
 
@@ -23,11 +23,16 @@ abbrev pub verdict_text : Verdict → List ℕ
 verdict_text (Accepted bound) = codes "accepted " ++ bound_text bound
 verdict_text (Rejected v) = codes "rejected " ++ violation_text v
 
--- the clauses with numbers below `k` are satisfied
+-- the clauses on columns and closed states with numbers below `k` are satisfied, for the task that they are about
 abbrev pub AreMetBelow : FiniteDomainTask → CertificateValue → ℕ → Type 0
-AreMetBelow task c k = (j : ℕ) → j < k → IsMet task c j
+AreMetBelow task c k = (j : ℕ) → 0 < j → j < k → IsMet task c j
 
--- the result of the tests of the clauses with numbers below `k`: the first violation of the certificate, or none
+-- the result of the tests of these clauses: the first violation, or none
 abbrev pub IsFoundBelow : FiniteDomainTask → CertificateValue → ℕ → Option Violation → Type 0
 IsFoundBelow task c k None = AreMetBelow task c k
-IsFoundBelow task c k (Some v) = IsFirstViolation task c v
+IsFoundBelow task c k (Some v) = (0 < clause_of v) × IsFirstOfClause task c v × AreMetBelow task c (clause_of v)
+
+-- the first violation of the certificate, or none
+abbrev pub IsFirstOrNone : FiniteDomainTask → CertificateValue → Option Violation → Type 0
+IsFirstOrNone task c None = IsHeld task c
+IsFirstOrNone task c (Some v) = IsFirstViolation task c v

@@ -3,9 +3,10 @@
 ghost use Rattle.std.specs.Prelude.{◌≡◌, IfOk};
 ghost use Rattle.cost.specs.Distances.{Distance, Infinite};
 ghost use Rattle.fdr.specs.Tasks.{IsTask, EveryPlanCostsAtLeast, HasNoPlan};
-ghost use Rattle.checker.specs.Verdicts.{IsVerdict, AreMetBelow, IsFoundBelow};
+ghost use Rattle.checker.specs.Verdicts.{IsVerdict, AreMetBelow, IsFoundBelow, IsFirstOrNone};
 ghost use Rattle.checker.specs.declared.verdict.Verdict.TheVariants.{Accepted};
 
+use crate::classes::{first_class_violation, reduced};
 use crate::verdict::Verdict;
 use cert_value::Certificate;
 use checker_clauses::Violation;
@@ -15,7 +16,7 @@ use fdr::FdrTask;
 use std::alloc::{AllocError, Global};
 use std::thread::Threads;
 
-/// Returns the first violation of the clauses on tables, C3 and C4.
+/// Returns the first violation of the clauses on tables, C3 and C4, if they are for this task.
 fn table_violation<R: Threads + Sync>(
     rt: &R,
     alloc: Global,
@@ -69,8 +70,8 @@ fn closed_violation<R: Threads + Sync>(
     covering_violation(rt, alloc, task, certificate, &coverage)
 }
 
-/// Returns the first violation, or `None` if there is none.
-fn first_violation<R: Threads + Sync>(
+/// Returns the first violation of the clauses C3 to C8, if the columns and the closed list are for this task.
+fn clause_violation<R: Threads + Sync>(
     rt: &R,
     alloc: Global,
     task: &FdrTask,
@@ -84,9 +85,31 @@ fn first_violation<R: Threads + Sync>(
     closed_violation(rt, alloc, task, certificate)
 }
 
+/// Returns the first violation, or `None` if there is none. If the certificate has classes, its columns and its closed
+/// list are for the reduced task.
+fn first_violation<R: Threads + Sync>(
+    rt: &R,
+    alloc: Global,
+    task: &FdrTask,
+    certificate: &Certificate,
+) -> Result<Option<Violation>, AllocError>
+    ensures { IfOk result (IsFirstOrNone task.now certificate.now) }
+{
+    if let Some(classes) = first_class_violation(task, certificate) {
+        return Ok(Some(classes));
+    }
+    if certificate.classes().is_empty() {
+        return clause_violation(rt, alloc, task, certificate);
+    }
+    // operators that change no image are operators of this task too, but C4 and C8 pass over them
+    let reduced = reduced(alloc, task, certificate)?;
+    clause_violation(rt, alloc, &reduced, certificate)
+}
+
 /// Returns the verdict on a certificate for a task, whatever kind of task the certificate is for: `Accepted` with its
-/// bound if it satisfies the clauses C3 to C8, and otherwise `Rejected` with its first violation. After `Accepted`
-/// every plan costs at least the bound, whoever wrote the certificate, and there is no plan if the bound is infinite.
+/// bound if it satisfies the clauses C0 and C3 to C8, and otherwise `Rejected` with its first violation. If it has
+/// classes, C3 to C8 are those of the reduced task. After `Accepted` every plan of the task itself costs at least the
+/// bound, whoever wrote the certificate, and there is no plan if the bound is infinite.
 /// The verdict does not depend on the number of threads that test the tables and search a long closed list. Fails if
 /// allocation fails, or if there are 2^32 closed states or more, which no certificate text can have.
 pub fn check_fdr<R: AllocGlobal + Threads + Sync>(

@@ -2,6 +2,7 @@
 //! costs at least its bound. It trusts neither the author of the certificate nor the search that produced it.
 #![tactic(auto)]
 
+mod classes;
 mod fault;
 mod fdr_check;
 mod laws;

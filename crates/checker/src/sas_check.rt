@@ -72,8 +72,8 @@ fn read_certificate(alloc: Global, cert: &[u8]) -> Result<Certificate, CheckFaul
 }
 
 /// Returns the verdict on the text of a certificate for the text of a task (`output.sas`). It is `Accepted` with the
-/// certificate's bound if the certificate satisfies the clauses C3 to C8 for the task, and otherwise `Rejected` with
-/// the first violation. After `Accepted` every plan of the task costs at least the bound, whoever wrote the
+/// certificate's bound if the certificate satisfies the clauses C0 and C3 to C8 for the task, and otherwise `Rejected`
+/// with the first violation. After `Accepted` every plan of the task costs at least the bound, whoever wrote the
 /// certificate, and there is no plan if the bound is infinite.
 ///
 /// Fails with the first fault of the task's text, or else with the first fault of the certificate's text, or if

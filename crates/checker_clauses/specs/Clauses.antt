@@ -1,17 +1,30 @@
 -- The clauses of a certificate for a finite-domain task, each as a test. They allow anyone to check a lower bound on
 -- the cost of every plan: cost-partitioned tables (Seipp, Keller and Helmert 2020), and a closed list whose successors
 -- are in it or have a heuristic value that reaches the bound.
-use Rattle.std.specs.Prelude.{ℕ, ◌+◌, ◌-◌, Bool, true, false, ◌==◌, ◌&&◌, ◌||◌, not, nat_le, nat_lt, nat_eq, if◌then◌else◌, List, [], ◌∷◌, length, map, sum_by, slice_get, slice_index_or}
+use Rattle.std.specs.Prelude.{ℕ, ◌+◌, ◌-◌, Bool, true, false, ◌==◌, ◌&&◌, ◌||◌, not, nat_le, nat_lt, nat_eq, if◌then◌else◌, List, [], ◌∷◌, length, map, option_map, sum_by, slice_get, slice_index_or}
 use Rattle.std.specs.List.{list_any}
-use Rattle.std.specs.Option.{option_map_or}
+use Rattle.std.specs.Option.{option_map_or, option_eq}
 use Rattle.std.specs.Cmp.Lexicographic.{pointwise}
 use Rattle.cost.specs.Distances.{Distance, Finite, Infinite, is_at_most, ◌+ᵈ◌}
-use Rattle.fdr.specs.Tasks.{FiniteDomainTask, step, is_goal_state, cost_of}
+use Rattle.fdr.specs.Tasks.{FiniteDomainTask, ranges, step, is_goal_state, cost_of}
 use Rattle.abstraction.specs.Abstractions as abstraction
 use Rattle.abstraction_mapping.specs.Mappings.{abstraction_by, is_mapping}
 use Rattle.abstraction.specs.Columns.{heuristic}
+use Rattle.reduction_classes.specs.Reduced.{reduced_task}
 use Rattle.cert_value.specs.declared.table.Share.{Share}
 use Rattle.cert_value.specs.Certificates.{Table, Entry, CertificateValue}
+
+-- ---- classes
+
+-- the row with this number has one class for each value of the variable with this number, or neither exists
+abbrev pub fits_row : FiniteDomainTask → List (List ℕ) → ℕ → Bool
+fits_row task rows v = option_eq nat_eq (option_map length (slice_get rows v)) (slice_get (ranges task) v)
+
+-- the task that the columns and the closed states of a certificate with these classes are for: the reduced task, or
+-- without classes the task itself
+abbrev pub judged_task : FiniteDomainTask → List (List ℕ) → FiniteDomainTask
+judged_task task [] = task
+judged_task task (row ∷ rows) = reduced_task (row ∷ rows) task
 
 -- ---- tables
 

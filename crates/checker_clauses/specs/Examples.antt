@@ -1,10 +1,11 @@
--- An example: a road of three towns, from the first to the last, with two operators of cost 1; and certificates for it.
+-- Examples: a road of three towns, from the first to the last, with two operators of cost 1, and certificates for it;
+-- and certificates with classes, for a road with a lamp that no goal needs.
 use Rattle.std.specs.Prelude.{ℕ, false, List, [], ◌∷◌}
 use Rattle.cost.specs.Distances.{Distance, Finite}
 use Rattle.fdr.specs.declared.fact.Fact.{Fact}
 use Rattle.fdr.specs.Tasks.{FiniteDomainTask, Operator}
 use Rattle.abstraction_mapping.specs.Mappings.{Pattern}
-use Rattle.cert_value.specs.declared.certificate.Version.TheVariants.{One}
+use Rattle.cert_value.specs.declared.certificate.Version.TheVariants.{One, Three}
 use Rattle.cert_value.specs.Certificates.{FiniteDomain, Table, Entry, CertificateValue}
 
 -- the location is this town
@@ -31,7 +32,7 @@ reached cost value = record { cost = cost; state = value ∷ [] }
 
 -- a certificate with closed states and no table
 abbrev pub with_closed : Distance → List Entry → CertificateValue
-with_closed bound closed = record { version = One; kind = FiniteDomain; bound = bound; columns = []; closed = closed }
+with_closed bound closed = record { version = One; kind = FiniteDomain; bound = bound; classes = []; columns = []; closed = closed }
 
 -- a certificate in which the first two towns are closed
 abbrev pub two_closed : Distance → CertificateValue
@@ -57,4 +58,21 @@ listing o =
 
 -- a certificate with one column and no closed state
 abbrev pub with_column : Distance → List Table → CertificateValue
-with_column bound column = record { version = One; kind = FiniteDomain; bound = bound; columns = column ∷ []; closed = [] }
+with_column bound column = record { version = One; kind = FiniteDomain; bound = bound; classes = []; columns = column ∷ []; closed = [] }
+
+-- a certificate with these classes and closed states, and no table
+abbrev pub with_classes : Distance → List (List ℕ) → List Entry → CertificateValue
+with_classes bound classes closed =
+    record { version = Three; kind = FiniteDomain; bound = bound; classes = classes; columns = []; closed = closed }
+
+-- each of the three locations is a class of its own
+abbrev pub locations : List ℕ
+locations = 0 ∷ 1 ∷ 2 ∷ []
+
+-- the first two locations are one class
+abbrev pub first_two_merged : List ℕ
+first_two_merged = 0 ∷ 0 ∷ 1 ∷ []
+
+-- both values of the lamp are one class
+abbrev pub lamp_merged : List ℕ
+lamp_merged = 0 ∷ 0 ∷ []

@@ -1,17 +1,18 @@
 -- Violations of a certificate, and which of them is the first.
-use Rattle.std.specs.Prelude.{◌≡◌, ℕ, ◌<◌, false, ◌&&◌, List, [], ◌∷◌, ◌++◌, Option, Some, None, option_and_then, slice_get, IsSomeAnd, codes, decimal}
+use Rattle.std.specs.Prelude.{◌≡◌, ℕ, zero, suc, ◌<◌, false, ◌&&◌, List, [], ◌∷◌, ◌++◌, length, Option, Some, None, option_and_then, slice_get, IsSomeAnd, codes, decimal}
 use Rattle.fdr.specs.Tasks.{FiniteDomainTask, ranges}
 use Rattle.cert_value.specs.Certificates.{Table, CertificateValue}
 use Rattle.checker_clauses.specs.declared.violation.Violation.{Violation}
-use Rattle.checker_clauses.specs.declared.violation.Violation.TheVariants.{Shares, TableForm, GoalValue, Fall, ClosedState, Start, ClosedGoal, Successor}
-use Rattle.checker_clauses.specs.Clauses.{abstraction_of, is_within_cost, has_form, is_goal_at_zero, falls_within_share, is_state, is_behind, is_covered, is_dear_if_goal, covers_successor, comes_before}
+use Rattle.checker_clauses.specs.declared.violation.Violation.TheVariants.{Classes, Shares, TableForm, GoalValue, Fall, ClosedState, Start, ClosedGoal, Successor}
+use Rattle.checker_clauses.specs.Clauses.{fits_row, judged_task, abstraction_of, is_within_cost, has_form, is_goal_at_zero, falls_within_share, is_state, is_behind, is_covered, is_dear_if_goal, covers_successor, comes_before}
 
 -- the table with the number j in the column with the number i
 abbrev pub table_at : List (List Table) → ℕ → ℕ → Option Table
 table_at columns i j = option_and_then (λ column. slice_get column j) (slice_get columns i)
 
--- the certificate has this violation
+-- the certificate has this violation, for the task that the clause is about
 abbrev pub Violates : FiniteDomainTask → CertificateValue → Violation → Type 0
+Violates task c (Classes v) = (0 < length c.classes) × (fits_row task c.classes v ≡ false)
 Violates task c (Shares i o) = IsSomeAnd (slice_get c.columns i) (λ column. is_within_cost task column o ≡ false)
 Violates task c (TableForm i j) = IsSomeAnd (table_at c.columns i j) (λ t. has_form task t ≡ false)
 Violates task c (GoalValue i j a) =
@@ -26,6 +27,7 @@ Violates task c (Successor i o) = IsSomeAnd (slice_get c.closed i) (λ e. covers
 
 -- the number of the clause
 abbrev pub clause_of : Violation → ℕ
+clause_of (Classes v) = 0
 clause_of (Shares i o) = 3
 clause_of (TableForm i j) = 4
 clause_of (GoalValue i j a) = 4
@@ -37,6 +39,7 @@ clause_of (Successor i o) = 8
 
 -- the place within the clause; of one table its form comes first, then its abstract goals, then its transitions
 abbrev pub place_of : Violation → List ℕ
+place_of (Classes v) = v ∷ []
 place_of (Shares i o) = i ∷ o ∷ []
 place_of (TableForm i j) = i ∷ j ∷ 0 ∷ []
 place_of (GoalValue i j a) = i ∷ j ∷ 1 ∷ a ∷ []
@@ -60,14 +63,20 @@ abbrev pub IsFoundIn : FiniteDomainTask → CertificateValue → ℕ → Option 
 IsFoundIn task c k None = IsMet task c k
 IsFoundIn task c k (Some v) = (clause_of v ≡ k) × IsFirstOfClause task c v
 
+-- the task that a clause is about, in a certificate for a task: C0 is about the task itself, the others about the
+-- judged one
+abbrev pub clause_task : FiniteDomainTask → CertificateValue → ℕ → FiniteDomainTask
+clause_task task c zero = task
+clause_task task c (suc k) = judged_task task c.classes
+
 -- the certificate has this violation, and none before it: every earlier clause is satisfied
 pub record IsFirstViolation (task : FiniteDomainTask) (c : CertificateValue) (v : Violation) : Type 0 where
-  pub of_clause : IsFirstOfClause task c v
-  pub before : (k : ℕ) → k < clause_of v → IsMet task c k
+  pub of_clause : IsFirstOfClause (clause_task task c (clause_of v)) c v
+  pub before : (k : ℕ) → k < clause_of v → IsMet (clause_task task c k) c k
 
 -- the certificate has no violation
 abbrev pub IsHeld : FiniteDomainTask → CertificateValue → Type 0
-IsHeld task c = (v : Violation) → Violates task c v → ⊥
+IsHeld task c = (v : Violation) → Violates (clause_task task c (clause_of v)) c v → ⊥
 
 -- a blank, a word, a blank and a number
 abbrev pub numbered : List ℕ → ℕ → List ℕ
@@ -75,6 +84,7 @@ numbered word n = 32 ∷ word ++ (32 ∷ decimal n)
 
 -- the text of a violation: clause and place
 abbrev pub violation_text : Violation → List ℕ
+violation_text (Classes v) = codes "C0" ++ numbered (codes "var") v
 violation_text (Shares i o) = codes "C3" ++ (numbered (codes "column") i ++ numbered (codes "op") o)
 violation_text (TableForm i j) = codes "C4" ++ (numbered (codes "column") i ++ numbered (codes "table") j)
 violation_text (GoalValue i j a) =

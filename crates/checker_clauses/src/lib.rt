@@ -4,5 +4,7 @@
 mod laws;
 mod violation;
 
-pub use laws::{clauses_imply_bound, one_first_violation, worked_road};
+pub use laws::{
+    clauses_imply_bound, one_first_violation, without_classes, worked_road, worked_road_with_lamp,
+};
 pub use violation::Violation;

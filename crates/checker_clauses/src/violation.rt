@@ -3,9 +3,14 @@
 use std::fmt;
 
 /// A violation of a clause by a certificate for a finite-domain task: the clause, and the place. Its text is
-/// `C3 column I op O` and so on.
+/// `C0 var V`, `C3 column I op O` and so on. In a certificate with classes, states, operators and variables of all
+/// clauses but C0 are those of the reduced task.
 #[derive(Clone, Copy, Debug, PartialEq, Eq)]
 pub enum Violation {
+    /// C0: the certificate has classes, and for this variable of the task there is no row of classes, or the row does
+    /// not have exactly one class for each of its values; or the task does not have this variable, and there is a row
+    /// for it.
+    Classes(usize),
     /// C3: in a column the shares of an operator sum to more than its cost, or a table lists an operator that does not
     /// exist. The numbers are those of the column and the operator.
     Shares(usize, usize),
@@ -40,6 +45,7 @@ impl fmt::Display for Violation {
 
     fn fmt<W: fmt::Write>(&self, f: &mut fmt::Formatter<W>) -> fmt::Result {
         match self {
+            Violation::Classes(v) => write!(f, "C0 var {v}"),
             Violation::Shares(i, o) => write!(f, "C3 column {i} op {o}"),
             Violation::TableForm(i, j) => write!(f, "C4 column {i} table {j}"),
             Violation::GoalValue(i, j, a) => write!(f, "C4 column {i} table {j} state {a}"),

@@ -100,7 +100,7 @@ pub fn check_for_task<R: AllocGlobal + Threads + Sync>(
 }
 
 /// Returns the verdict on the text of a certificate for the planning task that two texts spell. It is `Accepted` with
-/// the certificate's bound if the certificate satisfies the clauses C1 to C8 for the task, and otherwise `Rejected`
+/// the certificate's bound if the certificate satisfies the clauses C0 to C8 for the task, and otherwise `Rejected`
 /// with the first violation. After `Accepted` every valid plan of the task costs at least the bound, whoever wrote the
 /// certificate, and there is no valid plan if the bound is infinite.
 ///

@@ -109,9 +109,9 @@ fn listed_parts(alloc: Global, task: &Task, parts: &AtomParts) -> Result<Listed,
 }
 
 /// Returns the verdict on a certificate with these parts for a planning task: `Accepted` with its bound if the atoms
-/// and variables satisfy C1 and C2 for the task and the finite-domain task over them satisfies the clauses C3 to C8,
-/// and otherwise `Rejected` with the first violation. After `Accepted` every valid plan costs at least the bound,
-/// whoever wrote the certificate, and there is no valid plan if the bound is infinite.
+/// and variables satisfy C1 and C2 for the task, and the certificate satisfies the clauses C0 and C3 to C8 for the
+/// finite-domain task over them, and otherwise `Rejected` with the first violation. After `Accepted` every valid plan
+/// costs at least the bound, whoever wrote the certificate, and there is no valid plan if the bound is infinite.
 ///
 /// Fails if a limit on atoms, actions, variables or values is exceeded, or if allocation fails.
 pub fn judge<R: AllocGlobal + Threads + Sync>(

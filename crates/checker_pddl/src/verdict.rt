@@ -17,7 +17,7 @@ pub enum PlanningViolation {
     Variable(usize),
     /// C2: the listed atom is not constant, and in no variable.
     Uncovered(String),
-    /// C3 to C8: a violation for the finite-domain task over the listed atoms and the variables.
+    /// C0 and C3 to C8: a violation for the finite-domain task over the listed atoms and the variables.
     Task(Violation),
 }
 

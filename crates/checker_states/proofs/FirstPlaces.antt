@@ -7,7 +7,7 @@ use Rattle.std.proofs.lemmas.Option.{slice_get_past}
 use Rattle.fdr.specs.Tasks.{FiniteDomainTask, ranges, IsState}
 use Rattle.cert_value.specs.Certificates.{Entry, CertificateValue}
 use Rattle.checker_clauses.specs.declared.violation.Violation.{Violation}
-use Rattle.checker_clauses.specs.declared.violation.Violation.TheVariants.{Shares, TableForm, GoalValue, Fall, ClosedState, Start, ClosedGoal, Successor}
+use Rattle.checker_clauses.specs.declared.violation.Violation.TheVariants.{Classes, Shares, TableForm, GoalValue, Fall, ClosedState, Start, ClosedGoal, Successor}
 use Rattle.checker_clauses.specs.Clauses.{is_state, is_behind, is_covered, is_dear_if_goal, covers_successor, comes_before}
 use Rattle.checker_clauses.specs.Violations.{Violates, clause_of, place_of, IsMet, IsFoundIn}
 use Rattle.checker_pieces.specs.Pieces.{IsFirstIn}
@@ -54,6 +54,7 @@ module _ (task : FiniteDomainTask) (c : CertificateValue) where
   pub no_state_fails : PassesBelow (passes_state task c.closed) (length c.closed) → IsFoundIn task c 5 None
   no_state_fails below (ClosedState i) k h =
       not_both _ (slice_get c.closed i) (past_end (λ j e. is_state (ranges task) e.state && is_behind c.closed j e.state) c.closed below i) h
+  no_state_fails below (Classes v) k h = absurd (omega arith)
   no_state_fails below (Shares i o) k h = absurd (omega arith)
   no_state_fails below (TableForm i j) k h = absurd (omega arith)
   no_state_fails below (GoalValue i j a) k h = absurd (omega arith)
@@ -68,6 +69,7 @@ module _ (task : FiniteDomainTask) (c : CertificateValue) where
       earlier : (w : Violation) → clause_of w ≡ 5 → Violates task c w → comes_before (place_of w) (i ∷ []) ≡ false
       earlier (ClosedState j) k h =
           not_earlier i j (λ l. not_both (λ x. is_state (ranges task) x.state && is_behind c.closed j x.state) (slice_get c.closed j) (below j l) h)
+      earlier (Classes v) k h = absurd (omega arith)
       earlier (Shares j o) k h = absurd (omega arith)
       earlier (TableForm j t) k h = absurd (omega arith)
       earlier (GoalValue j t a) k h = absurd (omega arith)
@@ -80,6 +82,7 @@ module _ (task : FiniteDomainTask) (c : CertificateValue) where
   pub no_goal_fails : PassesBelow (passes_goal task c) (length c.closed) → IsFoundIn task c 7 None
   no_goal_fails below (ClosedGoal i) k h =
       not_both (is_dear_if_goal task c) (slice_get c.closed i) (past_end (λ j. is_dear_if_goal task c) c.closed below i) h
+  no_goal_fails below (Classes v) k h = absurd (omega arith)
   no_goal_fails below (Shares i o) k h = absurd (omega arith)
   no_goal_fails below (TableForm i j) k h = absurd (omega arith)
   no_goal_fails below (GoalValue i j a) k h = absurd (omega arith)
@@ -93,6 +96,7 @@ module _ (task : FiniteDomainTask) (c : CertificateValue) where
     where
       earlier : (w : Violation) → clause_of w ≡ 7 → Violates task c w → comes_before (place_of w) (i ∷ []) ≡ false
       earlier (ClosedGoal j) k h = not_earlier i j (λ l. not_both (is_dear_if_goal task c) (slice_get c.closed j) (below j l) h)
+      earlier (Classes v) k h = absurd (omega arith)
       earlier (Shares j o) k h = absurd (omega arith)
       earlier (TableForm j t) k h = absurd (omega arith)
       earlier (GoalValue j t a) k h = absurd (omega arith)
@@ -104,6 +108,7 @@ module _ (task : FiniteDomainTask) (c : CertificateValue) where
   -- C6
   pub start_holds : is_covered task c task.initial 0 ≡ true → IsFoundIn task c 6 None
   start_holds e Start k h = true≢false (sym e ∙ h)
+  start_holds e (Classes v) k h = absurd (omega arith)
   start_holds e (Shares i o) k h = absurd (omega arith)
   start_holds e (TableForm i j) k h = absurd (omega arith)
   start_holds e (GoalValue i j a) k h = absurd (omega arith)
@@ -116,6 +121,7 @@ module _ (task : FiniteDomainTask) (c : CertificateValue) where
   start_fails e = (refl, record { there = e; first = earlier })
     where
       earlier : (w : Violation) → clause_of w ≡ 6 → Violates task c w → comes_before (place_of w) [] ≡ false
+      earlier (Classes v) k h = refl
       earlier (Shares j o) k h = refl
       earlier (TableForm j t) k h = refl
       earlier (GoalValue j t a) k h = refl
@@ -130,6 +136,7 @@ module _ (task : FiniteDomainTask) (c : CertificateValue) where
   no_successor_fails each (Successor i o) k h =
       not_both (λ e. covers_successor task c e o) (slice_get c.closed i)
       (past_end (λ j e. covers_successor task c e o) c.closed (λ j l. each j l o) i) h
+  no_successor_fails each (Classes v) k h = absurd (omega arith)
   no_successor_fails each (Shares i o) k h = absurd (omega arith)
   no_successor_fails each (TableForm i j) k h = absurd (omega arith)
   no_successor_fails each (GoalValue i j a) k h = absurd (omega arith)
@@ -149,6 +156,7 @@ module _ (task : FiniteDomainTask) (c : CertificateValue) where
           not_earlier_pair i o j p
           (λ l. not_both (λ x. covers_successor task c x p) (slice_get c.closed j) (each j l p) h)
           (λ s l. not_both (λ x. covers_successor task c x p) (slice_get c.closed j) (here j p s l) h)
+      earlier (Classes v) k h = absurd (omega arith)
       earlier (Shares j o) k h = absurd (omega arith)
       earlier (TableForm j t) k h = absurd (omega arith)
       earlier (GoalValue j t a) k h = absurd (omega arith)

@@ -6,3 +6,4 @@ pub mod FirstPlaces
 pub mod Saturation
 pub mod Successors
 pub mod Searches
+pub mod UnchangedStates

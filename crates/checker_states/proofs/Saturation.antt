@@ -41,7 +41,7 @@ reaches_further (Finite b) Infinite cost total l e = refl
 reaches_further Infinite (Finite h) cost total l e = e
 reaches_further (Finite b) (Finite h) cost total l e = le-leb b (total + h) (omega (arith, leb-true b cost e, l))
 
-or_true : (b : Bool) → (b || true) ≡ true
+pub or_true : (b : Bool) → (b || true) ≡ true
 or_true true = refl
 or_true false = refl
 

@@ -1,12 +1,13 @@
 //! The clauses C6 and C8: the initial state and the successors of closed states are covered.
 
-ghost use Rattle.std.specs.Prelude.{◌≡◌, ℕ, ◌-◌, ◌<◌, ◌≤◌, ◌^◌, min, not, All, length, slice_get, option_map, Some, IfOk, IfSome};
+ghost use Rattle.std.specs.Prelude.{◌≡◌, ℕ, ◌-◌, ◌<◌, ◌≤◌, ◌^◌, min, not, false, All, length, slice_get, slice_index_or, option_map, Some, IfOk, IfSome};
 ghost use Rattle.std.specs.List.{find};
 ghost use Rattle.cost.specs.Distances.{IsWithin};
 ghost use Rattle.fdr.specs.Tasks.{ranges, IsTask, IsState};
 ghost use Rattle.checker_clauses.specs.Clauses.{is_covered};
 ghost use Rattle.checker_clauses.specs.Violations.{IsMet, IsFoundIn};
 ghost use Rattle.checker_pieces.specs.Pieces.{IsFirstIn};
+ghost use Rattle.checker_tables.specs.Changes.{changes_of};
 ghost use Rattle.checker_states.specs.Places.{passes_successor, IsFirstFailing, says_successor};
 
 use crate::goals::reaches;
@@ -14,7 +15,7 @@ use crate::index::ClosedIndex;
 use cert_value::{Certificate, ClosedList};
 use checker_clauses::Violation;
 use checker_pieces::first_in_pieces;
-use checker_tables::Heuristic;
+use checker_tables::{Heuristic, changes_of};
 use cost::Dist;
 use fdr::FdrTask;
 use fdr_successors::SuccessorGenerator;
@@ -47,6 +48,8 @@ pub struct Coverage<'a> {
     certificate: &'a Certificate,
     index: ClosedIndex<'a>,
     generator: SuccessorGenerator<'a>,
+    /// For each operator whether it can change a state.
+    changes: Vec<bool>,
     heuristic: Heuristic<'a>,
 }
 
@@ -57,7 +60,7 @@ impl<'a> Model for Coverage<'a> {
 
     ghost view = { λ c. record { task = c.task.now; certificate = c.certificate.now } };
 
-    ghost invariant = { λ c. IsCovering c.task.now c.certificate.now c.index c.generator c.heuristic.task c.heuristic.columns };
+    ghost invariant = { λ c. IsCovering c.task.now c.certificate.now c.index c.generator c.changes.items c.heuristic.task c.heuristic.columns };
 }
 
 impl<'a> Coverage<'a> {
@@ -81,6 +84,7 @@ impl<'a> Coverage<'a> {
             certificate,
             index: ClosedIndex::new(rt, alloc, certificate.closed())?,
             generator: SuccessorGenerator::new(alloc, task)?,
+            changes: changes_of(alloc, task)?,
             heuristic: Heuristic::new(alloc, task, certificate)?,
         })
     }
@@ -110,8 +114,16 @@ impl<'a> Coverage<'a> {
         }
     }
 
+    /// Returns whether the operator with this number exists and can change a state.
+    fn can_change(&self, operator: usize) -> bool
+        ensures { result ≡ slice_index_or (changes_of self.now.task) operator false }
+    {
+        self.changes.get(operator).copied().unwrap_or(false)
+    }
+
     /// Returns whether the successor of the closed state under the operator is covered, or true if there is none.
-    /// `state` holds the values of that closed state; `successor` is a buffer.
+    /// `state` holds the values of that closed state; `successor` is a buffer. Under an operator that cannot change a
+    /// state the successor is the closed state itself, which is in the list at no greater cost.
     fn covers(&self, place: usize, state: &[u32], operator: usize, successor: &mut [u32]) -> bool
         requires place { place < length self.now.certificate.closed }
         requires here { option_map (λ e. e.state) (slice_get self.now.certificate.closed place) ≡ Some state.now }
@@ -119,6 +131,9 @@ impl<'a> Coverage<'a> {
         requires buffer { length successor.old ≡ length self.now.task.value_names }
         ensures { result ≡ passes_successor self.now.task self.now.certificate place operator }
     {
+        if !self.can_change(operator) {
+            return true;
+        }
         successor.copy_from_slice(state);
         if !self.task.apply(operator, successor) {
             return true;
@@ -214,9 +229,10 @@ impl<'a> Coverage<'a> {
     }
 
     /// Returns the first violation of the clause C8, a successor that is not covered, by the index of the closed state
-    /// and then by the number of the operator; `None` if there is none. The certificate must satisfy the clause C5. A
-    /// long closed list is cut into pieces, which as many threads as there are processors search in parallel; the
-    /// result does not depend on the number of threads.
+    /// and then by the number of the operator; `None` if there is none. The certificate must satisfy the clause C5.
+    /// Operators that cannot change a state are passed over, since the clause holds for them. A long closed list is cut
+    /// into pieces, which as many threads as there are processors search in parallel; the result does not depend on the
+    /// number of threads.
     pub fn first_successor_violation<R: Threads + Sync>(
         &self,
         rt: &R,

@@ -8,6 +8,7 @@ pub mod ForeignLaws
 pub mod PlaceLaws
 pub mod ShareViolations
 pub mod FallLaws
+pub mod UntriedOperators
 pub mod OperatorFalls
 pub mod ListingLaws
 pub mod TableViolations

@@ -6,7 +6,7 @@ use Rattle.std.proofs.lemmas.Option.{slice_get_past}
 use Rattle.fdr.specs.Tasks.{FiniteDomainTask}
 use Rattle.cert_value.specs.Certificates.{Table, CertificateValue}
 use Rattle.checker_clauses.specs.declared.violation.Violation.{Violation}
-use Rattle.checker_clauses.specs.declared.violation.Violation.TheVariants.{Shares, TableForm, GoalValue, Fall, ClosedState, Start, ClosedGoal, Successor}
+use Rattle.checker_clauses.specs.declared.violation.Violation.TheVariants.{Classes, Shares, TableForm, GoalValue, Fall, ClosedState, Start, ClosedGoal, Successor}
 use Rattle.checker_clauses.specs.Clauses.{is_within_cost, comes_before}
 use Rattle.checker_clauses.specs.Violations.{Violates, IsMet, IsFirstOfClause, clause_of, place_of}
 use Rattle.checker_tables.specs.ShareSums.{IsFirstFailure}
@@ -27,6 +27,7 @@ module _ (task : FiniteDomainTask) (c : CertificateValue) where
     where
       at : (j : ℕ) → IsWithinAt j
       at j = ⊎_elim (λ l. within j l) (λ past. rw (slice_get_past c.columns j past) tt) (cases_lt j (length c.columns))
+  within_met within (Classes v) k fails = absurd (omega arith)
   within_met within (TableForm i j) k fails = absurd (omega arith)
   within_met within (GoalValue i j a) k fails = absurd (omega arith)
   within_met within (Fall i j a o) k fails = absurd (omega arith)
@@ -50,6 +51,7 @@ module _ (task : FiniteDomainTask) (c : CertificateValue) where
           (λ l. both_ways (is_within_cost task column p)
           (subst (λ (r : Option (List Table)). IsSomeAnd r (λ ts. is_within_cost task ts p ≡ false)) (ap (λ (n : ℕ). slice_get c.columns n) q ∙ is) fails) (found.1 p l))
           (λ _. refl))
+      first (Classes v) e fails = absurd (omega arith)
       first (TableForm j k) e fails = absurd (omega arith)
       first (GoalValue j k a) e fails = absurd (omega arith)
       first (Fall j k a p) e fails = absurd (omega arith)

@@ -2,15 +2,17 @@
 use Rattle.std.proofs.Common.{◌≡◌, ℕ, ◌<◌, true, false, List, [], ◌∷◌, length, map, Option, Some, None, refl, sym, ap, ◌∙◌, arith, subst, ⊎_elim}
 use Rattle.std.specs.Prelude.{IsSomeAnd, IfSome, slice_get, slice_index}
 use Rattle.std.specs.Option.{option_map_or}
+use Rattle.std.specs.List.Sorted.{IsStrictlyIncreasing}
 use Rattle.std.proofs.lemmas.Bool.{both_ways, cases_lt}
 use Rattle.std.proofs.lemmas.Option.{slice_get_within}
 use Rattle.fdr.specs.Tasks.{FiniteDomainTask}
 use Rattle.abstraction.specs.Abstractions as abstraction
 use Rattle.abstraction.specs.Abstractions.{IsAbstractionOf}
 use Rattle.abstraction_mapping.specs.declared.table.TableAbstraction.{TableAbstraction}
-use Rattle.abstraction_mapping.specs.Mappings.{Mapping, abstraction_by}
+use Rattle.abstraction_mapping.specs.Mappings.{Mapping, abstraction_by, variables_of}
 use Rattle.abstraction_mapping.specs.Views.{task_in, mapping_in, abstraction_in}
 use Rattle.abstraction_mapping.specs.MappingLaws.{mapping_abstracts}
+use Rattle.abstraction_mapping.specs.ClassLaws.{increasing_in}
 use Rattle.cert_value.specs.Certificates.{Table, CertificateValue}
 use Rattle.checker_clauses.specs.declared.violation.Violation.{Violation}
 use Rattle.checker_clauses.specs.declared.violation.Violation.TheVariants as violation
@@ -18,6 +20,7 @@ use Rattle.checker_clauses.specs.Clauses.{abstraction_of, has_form, share_of, is
 use Rattle.checker_clauses.specs.Violations as violations
 use Rattle.checker_clauses.specs.Violations.{Violates, IsMet, IsFirstOfClause, IsFoundIn, clause_of, table_at}
 use Rattle.checker_pieces.specs.Pieces.{IsFirstIn}
+use Rattle.checker_tables.specs.Changes.{changes_of, is_tried}
 use Rattle.checker_tables.specs.ShareSums.{IsFirstFailure}
 use Rattle.checker_tables.specs.declared.fault.TableFault.{TableFault}
 use Rattle.checker_tables.specs.declared.fault.TableFault.TheVariants.{Form, Goal, Fall}
@@ -25,7 +28,8 @@ use Rattle.checker_tables.specs.TableFaults.{Fails, IsFirstFault, IsFirstGoal, I
 use Rattle.checker_tables.specs.declared.transitions.Spender.{Spender}
 use Rattle.checker_tables.specs.declared.places.TablePlace.{TablePlace}
 use Rattle.checker_tables.specs.TablePlaces.{IsBefore, IsListed, IsListing, IsFaultOf, says_table}
-use Rattle.checker_tables.proofs.FallLaws.{falls_nowhere, falls_to_itself, first_of_touching}
+use Rattle.checker_tables.proofs.UntriedOperators.{untried_falls}
+use Rattle.checker_tables.proofs.FallLaws.{falls_nowhere, first_of_touching}
 use Rattle.checker_tables.proofs.PlaceLaws.{no_earlier}
 
 module _ (task : FiniteDomainTask) (t : Table) where
@@ -76,23 +80,26 @@ module _ (over : TableAbstraction) (task : FiniteDomainTask) (t : Table) (of_tas
       subst (λ (mapping : Mapping). IsAbstractionOf task (abstraction_by task mapping)) same
       (subst (λ (u : FiniteDomainTask). IsAbstractionOf u (abstraction_by u (mapping_in over))) of_task (mapping_abstracts over))
 
-  -- what is found among the operators that touch the abstract states is the first of all
+  increasing : IsStrictlyIncreasing (variables_of t.mapping)
+  increasing = subst (λ (mapping : Mapping). IsStrictlyIncreasing (variables_of mapping)) same (increasing_in over)
+
+  -- what is found among the operators that are tried is the first of all
   pub row_first : (sums : List ℕ) → ((o : ℕ) → o < length task.operators → slice_index sums o ≡ share_of t.shares o) → (a : ℕ) → a < (abstraction_of task t).size
       → IsFirstFailure (falls_within_share task t a)
-      (first_fall_at (abstraction_of task t) t.values (map (spender_of (slice_index sums)) (touching_from (abstraction_of task t).touches 0 (length task.operators))) a)
+      (first_fall_at (abstraction_of task t) t.values (map (spender_of (slice_index sums)) (touching_from (is_tried (changes_of task) (abstraction_of task t).touches) 0 (length task.operators))) a)
   row_first sums shares a l =
       first_of_touching (falls_within_share task t a) (λ (s : Spender). falls_within (abstraction_of task t) t.values a s.operator s.share)
-      (slice_index sums) (abstraction_of task t).touches (length task.operators)
+      (slice_index sums) (is_tried (changes_of task) (abstraction_of task t).touches) (length task.operators)
       (λ o h. ap (λ (x : ℕ). falls_within (abstraction_of task t) t.values a o x) (shares o h))
-      (λ o e. falls_to_itself (abstraction_of task t) t.values a o (share_of t.shares o) (abstracts.untouched a o l e))
+      (λ o e. untried_falls task t.mapping increasing a o l abstracts t.values (share_of t.shares o) e)
       (λ o h. falls_nowhere (abstraction_of task t) t.values a o (share_of t.shares o) (abstracts.operators a o h))
 
   module _ (sums : List ℕ) (shares : (o : ℕ) → o < length task.operators → slice_index sums o ≡ share_of t.shares o)
-      (spenders : List Spender) (are : spenders ≡ map (spender_of (slice_index sums)) (touching_from (abstraction_in over).touches 0 (length task.operators))) where
+      (spenders : List Spender) (are : spenders ≡ map (spender_of (slice_index sums)) (touching_from (is_tried (changes_of task) (abstraction_in over).touches) 0 (length task.operators))) where
     row_is : (a : ℕ) (r : Option ℕ) → a < (abstraction_of task t).size → first_fall_at (abstraction_in over) t.values spenders a ≡ r → IsFirstFailure (falls_within_share task t a) r
     row_is a r l e =
         subst (IsFirstFailure (falls_within_share task t a))
-        (sym (ap (λ (abs : abstraction.Abstraction). first_fall_at abs t.values (map (spender_of (slice_index sums)) (touching_from abs.touches 0 (length task.operators))) a) abstraction_is)
+        (sym (ap (λ (abs : abstraction.Abstraction). first_fall_at abs t.values (map (spender_of (slice_index sums)) (touching_from (is_tried (changes_of task) abs.touches) 0 (length task.operators))) a) abstraction_is)
         ∙ ap (λ (ss : List Spender). first_fall_at (abstraction_in over) t.values ss a) (sym are) ∙ e)
         (row_first sums shares a l)
 
@@ -138,6 +145,7 @@ module _ (task : FiniteDomainTask) (c : CertificateValue) where
 
   -- what holds of the faults of tables holds of the violations of their clause
   by_faults : (P : Violation → Type 0) → ((i j : ℕ) (f : TableFault) → P (violation_at i j f)) → (w : Violation) → clause_of w ≡ 4 → P w
+  by_faults P all (violation.Classes v) e = absurd (omega arith)
   by_faults P all (violation.Shares i o) e = absurd (omega arith)
   by_faults P all (violation.TableForm i j) e = all i j Form
   by_faults P all (violation.GoalValue i j a) e = all i j (Goal a)

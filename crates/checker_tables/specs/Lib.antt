@@ -1,3 +1,4 @@
+pub mod Changes
 pub mod MappedTables
 pub mod Moves
 pub mod Rests

@@ -1,8 +1,9 @@
 //! The transitions of a table, tested operator by operator.
 
-ghost use Rattle.std.specs.Prelude.{◌≡◌, ◌≤◌, [], ◌∷◌, map, length, slice_index, IfOk};
+ghost use Rattle.std.specs.Prelude.{◌≡◌, ◌<◌, ◌≤◌, [], ◌∷◌, map, length, slice_index, IfOk};
 ghost use Rattle.cost.specs.Distances.{Finite};
 ghost use Rattle.abstraction_mapping.specs.Views.{abstraction_in};
+ghost use Rattle.checker_tables.specs.Changes as spec;
 ghost use Rattle.checker_tables.specs.Moves.{AreGoals, IsLeastFailing};
 ghost use Rattle.checker_tables.specs.TableFaults.{IsFirstGoal, IsFirstFall, falls_within, touching_from, spender_of};
 
@@ -15,27 +16,36 @@ use cert_value::Values;
 use cost::Dist;
 use std::alloc::{AllocError, Global};
 
-/// An operator that affects the abstraction, by its number, with its share.
+/// An operator whose transitions are tested, by its number, with its share.
 #[derive(Clone, Copy)]
 pub(crate) struct Spender {
     pub(crate) operator: usize,
     pub(crate) share: u64,
 }
 
-/// Returns those of the first `operators` operators that affect the abstraction, with their shares.
+/// Returns whether the operator can change a state and affects the abstraction.
+fn is_tried<A: Abstraction>(abstraction: &A, changes: &[bool], operator: usize) -> bool
+    requires { operator < length changes.now }
+    ensures { result ≡ spec.is_tried changes.now (A.abstraction abstraction.now).touches operator }
+{
+    changes[operator] && abstraction.touches(operator)
+}
+
+/// Returns the operators that can change a state and affect the abstraction, with their shares. `changes` says for each
+/// operator whether it can change a state.
 pub(crate) fn spenders<A: Abstraction>(
     alloc: Global,
     abstraction: &A,
     shares: &ShareSums,
-    operators: usize,
+    changes: &[bool],
 ) -> Result<Vec<Spender>, AllocError>
-    requires { length shares.now.sums ≡ operators }
-    ensures { IfOk result (λ made. made.items ≡
-        map (spender_of (slice_index shares.now.sums)) (touching_from (A.abstraction abstraction.now).touches 0 operators)) }
+    requires { length shares.now.sums ≡ length changes.now }
+    ensures { IfOk result (λ made. made.items ≡ map (spender_of (slice_index shares.now.sums))
+        (touching_from (spec.is_tried changes.now (A.abstraction abstraction.now).touches) 0 (length changes.now))) }
 {
     let mut made = Vec::new(alloc);
-    for operator in 0..operators {
-        if abstraction.touches(operator) {
+    for operator in 0..changes.len() {
+        if is_tried(abstraction, changes, operator) {
             let share = shares.sum(operator);
             made.push(Spender { operator, share })?;
         }

@@ -149,6 +149,21 @@ module _ {F : Type 0} (values : F → List ℕ) (IsForm : F → Type 0) (eq : F 
       ∙ ap (λ (k : ℕ). if rank_less m.cost m.steps found.entry.cost found.entry.steps then Better k else Kept)
       (let b = here in omega arith))
 
+  -- the same by a test of ranks
+  pub outcome_of-tested : (entries now : List (F × SmallEntry)) (i : ℕ) (old entry : SmallEntry) (x y : Rank) (found : Option ℕ) (less : Bool)
+      → All (λ p. IsForm p.0) entries → found ≡ position (eq key) (keys_of entries) → found ≡ Some i → now ≡ entries
+      → slice_get (values_of now) i ≡ Some old → m.cost ≡ entry.cost → m.steps ≡ entry.steps
+      → x ≡ record { cost = entry.cost; steps = entry.steps } → y ≡ record { cost = old.cost; steps = old.steps }
+      → less ≡ is_some_and is_lt (partial_ordering_then (Some (nat_cmp x.cost y.cost)) (Some (nat_cmp x.steps y.steps)))
+      → outcome_of (nodes_of values entries) m ≡ (if less then Better i else Kept)
+  outcome_of-tested entries now i old entry x y found less all at is same there cost steps x_is y_is tested =
+      outcome_of-found entries i old all (sym at ∙ is)
+      (subst (λ (es : List (F × SmallEntry)). slice_get (values_of es) i ≡ Some old) same there)
+      ∙ ap (λ (b : Bool). if b then Better i else Kept)
+      ((λ j. rank_less (cost j) (steps j) old.cost old.steps)
+      ∙ (λ j. rank_less (sym x_is j).cost (sym x_is j).steps (sym y_is j).cost (sym y_is j).steps)
+      ∙ sym (is_lt-rank_less x y) ∙ sym tested)
+
   -- no entry has the key where the state is new
   pub New-missing : (entries : List (F × SmallEntry)) (i : ℕ) → All (λ p. IsForm p.0) entries →
       outcome_of (nodes_of values entries) m ≡ New i → position (eq key) (keys_of entries) ≡ None

@@ -1,8 +1,9 @@
 -- Which states were ever expanded: padding, one bit that is set, and the bits of rows.
-use Rattle.std.proofs.Common.{◌≡◌, ℕ, zero, suc, ◌≤◌, Bool, false, List, [], ◌∷◌, ◌++◌, length, take, Some, refl, sym, ap, ◌∙◌, arith}
+use Rattle.std.proofs.Common.{◌≡◌, ℕ, zero, suc, ◌≤◌, Bool, false, List, [], ◌∷◌, ◌++◌, length, take, Some, refl, sym, ap, ◌∙◌, subst, length-append, arith}
 use Rattle.std.specs.Prelude.{slice_get, slice_set}
 use Rattle.std.specs.Option.{option_map_or}
 use Rattle.std.specs.Map.{values_of}
+use Rattle.std.proofs.lemmas.List.{length-map, map-append}
 use Rattle.closed.specs.declared.small_entry.SmallEntry.{SmallEntry}
 use Rattle.closed.specs.Tables.{padded, was_expanded}
 use Rattle.closed.specs.Entries.{ever_of, set_entry_at}
@@ -77,3 +78,14 @@ module _ {F : Type 0} where
   ever_at [] i = refl
   ever_at (p ∷ ps) zero = refl
   ever_at (p ∷ ps) (suc i) = ever_at ps i
+
+  -- a state that was never expanded is appended
+  pub ever_of-pushed : (rows new : List (F × SmallEntry)) (form : F) (e : SmallEntry) → new ≡ rows ++ (form, e) ∷ [] → e.ever ≡ false →
+      ever_of new ≡ padded (ever_of rows) (length new)
+  ever_of-pushed rows new form e is never =
+      let long : length (rows ++ (form, e) ∷ []) ≡ suc (length (ever_of rows)) =
+      omega (arith, length-append rows ((form, e) ∷ []), length-map rows (λ (p : F × SmallEntry). p.1.ever)) in
+      subst (λ (rs : List (F × SmallEntry)). ever_of rs ≡ padded (ever_of rows) (length rs)) (sym is)
+      (map-append (λ (p : F × SmallEntry). p.1.ever) rows ((form, e) ∷ [])
+      ∙ ap (λ (b : Bool). ever_of rows ++ b ∷ []) never
+      ∙ sym (padded_one (ever_of rows) (length (rows ++ (form, e) ∷ [])) long))

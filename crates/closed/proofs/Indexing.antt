@@ -1,6 +1,6 @@
 -- Rows and their index: how a form is looked up, and what writes do.
-use Rattle.std.proofs.Common.{◌≡◌, ◌≢◌, ◌⊎◌, ℕ, zero, suc, ◌+◌, ◌-◌, ◌<◌, ◌≤◌, ◌^◌, Bool, true, false, cond, List, [], ◌∷◌, ◌++◌, length, take, replicate, Some, None, position, inl, inr, refl, sym, ap, ◌∙◌, subst, arith}
-use Rattle.std.specs.Prelude.{slice_get, slice_set, IsTrue}
+use Rattle.std.proofs.Common.{◌≡◌, ◌≢◌, ◌⊎◌, ℕ, zero, suc, ◌+◌, ◌-◌, ◌<◌, ◌≤◌, ◌^◌, Bool, true, false, cond, List, [], ◌∷◌, ◌++◌, length, take, replicate, Option, Some, None, position, inl, inr, refl, sym, ap, ◌∙◌, subst, arith}
+use Rattle.std.specs.Prelude.{slice_get, slice_set, IsTrue, IfSome, IfNone}
 use Rattle.std.specs.List.{position_from}
 use Rattle.std.specs.Map.{keys_of}
 use Rattle.std.specs.Cmp.{IsEquivalence}
@@ -10,8 +10,8 @@ use Rattle.std.proofs.lemmas.List.{length-map, length-append, map-append}
 use Rattle.std.proofs.lemmas.Option.{same_Some, slice_get_within}
 use Rattle.std.proofs.lemmas.Iterator.Adapters.{position_from-zero}
 use Rattle.slots.specs.declared.probing.Slot.{Slot}
-use Rattle.slots.specs.Slots.{links_of, empties, link_after, probed, home_of, IsFoundAfter, AddsSlot}
-use Rattle.slots.proofs.Probes.{link_there}
+use Rattle.slots.specs.Slots.{links_of, empties, link_after, probed, home_of, IsFirstEmpty, IsFoundAfter, AddsSlot}
+use Rattle.slots.proofs.Probes.{link_there, all_taken}
 use Rattle.closed.specs.declared.small_entry.SmallEntry.{SmallEntry}
 use Rattle.closed.specs.Entries.{set_entry_at}
 use Rattle.closed.specs.Rows.{tag_of, tags_of, room_in, HasTag, Holds, AreIndexed}
@@ -189,6 +189,26 @@ module _ {F : Type 0} (eq : F → F → Bool) (writes : F → HashWrites) (laws 
               last (inl q) = let zero_there : link after ≡ 0 = ap link (sym q) ∙ z in absurd (omega (arith, at.here, zero_there))
               last (inr q) = at.taken steps (omega (arith, m, q)) z
 
+  -- an empty slot after slots that were missed is the first
+  pub ends_first : (steps : ℕ) → steps < length slots → AreMissed steps → link steps ≡ 0 → IsFirstEmpty (links_of slots) home steps
+  ends_first steps within missed free =
+      record {
+        within = omega (arith, within, length-map slots (λ (s : Slot ℕ). s.link));
+        free = free;
+        taken = λ j l. (missed j l).taken;
+      }
+
+  -- not all slots are missed, since some are empty
+  pub never_all : (from tag steps : ℕ) → from ≡ home_of tag (length slots) → tag ≡ tag_of (writes form) → from < length slots
+      → AreIndexed eq writes rows slots → AreMissed steps → length slots ≤ steps → ⊥
+  never_all from tag steps at_home its inside indexed missed past =
+      let long : length (links_of slots) ≡ length slots = length-map slots (λ (s : Slot ℕ). s.link) in
+      let here : home < length slots =
+      subst (λ (h : ℕ). h < length slots) (at_home ∙ ap (λ (t : ℕ). home_of t (length slots)) its) inside in
+      let full : empties (links_of slots) ≡ 0 =
+      all_taken (links_of slots) home (omega (arith, here, long)) (λ j l. (missed j (omega (arith, l, long, past))).taken) in
+      absurd (omega (arith, full, indexed.count, indexed.some, indexed.room))
+
   -- a row that has it is the only one
   pub search_found : (i : ℕ) (p : F × SmallEntry) → AreIndexed eq writes rows slots → slice_get rows i ≡ Some p → eq form p.0 ≡ true → position (eq form) (keys_of rows) ≡ Some i
   search_found i p indexed there e = position_some (eq form) rows i p there e before
@@ -354,3 +374,13 @@ pub absent_equal : {F : Type 0} (eq : F → F → Bool) (laws : IsEquivalence eq
     → position (eq form) (keys_of rows) ≡ None → position (eq copy) (keys_of rows) ≡ None
 absent_equal eq laws rows form copy same none =
     position_none (eq copy) rows (λ i p h. sym (laws.congr form copy p.0 same) ∙ absent (eq form) rows none i p h)
+
+-- a row was appended where none was found
+pub none_pushed : (index : Option ℕ) (Pushed : Type 0) → index ≡ None → IfNone index Pushed → Pushed
+none_pushed None Pushed none is = is
+none_pushed (Some i) Pushed none is = absurd (cc)
+
+-- nothing was appended where one was found
+pub some_same : (index : Option ℕ) (i : ℕ) (Same : Type 0) → index ≡ Some i → IfSome index (λ _. Same) → Same
+some_same None i Same found same = absurd (cc)
+some_same (Some j) i Same found same = same

@@ -3,3 +3,4 @@ pub mod Outcomes
 pub mod Limits
 pub mod Entries
 pub mod Rows
+pub mod Hints

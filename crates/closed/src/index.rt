@@ -1,8 +1,8 @@
 //! The slots of the hash index, through which rows are found.
 
-ghost use Rattle.std.specs.Prelude.{◌≡◌, ℕ, ◌+◌, ◌^◌, ◌<◌, ◌≤◌, List, length, position, IfSome, OnOk, OnErr};
+ghost use Rattle.std.specs.Prelude.{◌≡◌, ℕ, ◌+◌, ◌^◌, ◌<◌, ◌≤◌, List, length, position, Some, None, IfSome, IfOk, IfErr, OnOk, OnErr};
 ghost use Rattle.std.specs.Map.{keys_of};
-ghost use Rattle.slots.specs.Slots.{links_of, empties};
+ghost use Rattle.slots.specs.Slots.{links_of, empties, home_of, IsFirstEmpty};
 ghost use Rattle.closed.specs.Rows as spec;
 ghost use Rattle.closed.specs.Rows.{HasTag, IsAmongFirst, Holds, AreIndexed, tags_of};
 
@@ -117,69 +117,68 @@ pub(crate) fn make_room(slots: &mut Vec<Slot<u32>>, rows: usize) -> Result<(), A
     Ok(())
 }
 
-/// Returns the form's home slot and the next one. Nothing here depends on what the slots hold, so reads for several
+/// Returns the home slot of a tag and the next one. Nothing here depends on what the slots hold, so reads for several
 /// forms overlap.
-pub(crate) fn first_slots<F: Hash>(slots: &[Slot<u32>], form: &F) -> (Slot<u32>, Slot<u32>)
+pub(crate) fn first_slots(slots: &[Slot<u32>], tag: u32) -> (Slot<u32>, Slot<u32>)
     requires some { 0 < length slots.now }
     requires few { length slots.now < 2 ^ 32 }
 {
     let size = slots.len();
-    let home = home_of(tag_of(form), size);
+    let home = home_of(tag, size);
     (
         slot_after(slots, home, 0),
         slot_after(slots, home, size.min(2) - 1),
     )
 }
 
-/// Returns the link of the first of these slots that has the tag, 0 if none has it: most often that of the row of the
-/// form with this tag, if it has one.
-fn link_by(tag: u32, home: Slot<u32>, next: Slot<u32>) -> u32 {
-    if home.note == tag {
-        home.link
-    } else if next.note == tag {
-        next.link
-    } else {
-        0
-    }
-}
-
-/// Returns the index of the row with this form, or `None` if there is none. Forms are compared only if their tags are
-/// equal.
-fn find<F: Hash>(rows: &[(F, SmallEntry)], slots: &[Slot<u32>], form: &F) -> Option<usize>
-    requires { AreIndexed F.eq F.hash_input rows.now slots.now }
-    ensures index { result ≡ position (F.eq form.now) (keys_of rows.now) }
-    ensures within { IfSome result (λ i. i < length rows.now) }
+/// Looks up the form that has this tag. Returns the index of its row, or, if there is none, as an error, after how many
+/// probes from the tag's home slot the first empty slot comes, which the form's row would take. Forms are compared only
+/// if their tags are equal.
+fn find<F: Hash>(
+    rows: &[(F, SmallEntry)],
+    slots: &[Slot<u32>],
+    form: &F,
+    tag: u32,
+) -> Result<usize, usize>
+    requires indexed { AreIndexed F.eq F.hash_input rows.now slots.now }
+    requires tag { tag ≡ spec.tag_of (F.hash_input form.now) }
+    ensures index { IfOk result (λ i. position (F.eq form.now) (keys_of rows.now) ≡ Some i) }
+    ensures within { IfOk result (λ i. i < length rows.now) }
+    ensures absent { IfErr result (λ _. position (F.eq form.now) (keys_of rows.now) ≡ None) }
+    ensures free { IfErr result (λ steps. IsFirstEmpty (links_of slots.now) (home_of tag (length slots.now)) steps) }
 {
-    let tag = tag_of(form);
     let home = home_of(tag, slots.len());
     for steps in 0..slots.len() {
         let slot = slot_after(slots, home, steps);
         if slot.link == 0 {
-            return None;
+            return Err(steps);
         }
         let index = slot.link as usize - 1;
         if slot.note == tag && *form == rows[index].0 {
-            return Some(index);
+            return Ok(index);
         }
     }
-    None
+    unreachable!() // at least a third of the slots are empty
 }
 
-/// Returns the same as `find`, after trying the row that one of the hint's slots names by the form's tag, if any: if it
-/// has the form, no slot is read.
+/// Returns the same as `find`, after trying the row that one of the hint's slots names by the tag, if any: if it has
+/// the form, no slot is read.
 pub(crate) fn find_hinted<F: Hash>(
     rows: &[(F, SmallEntry)],
     slots: &[Slot<u32>],
     form: &F,
     hint: Hint,
-) -> Option<usize>
-    requires { AreIndexed F.eq F.hash_input rows.now slots.now }
-    ensures index { result ≡ position (F.eq form.now) (keys_of rows.now) }
-    ensures within { IfSome result (λ i. i < length rows.now) }
+) -> Result<usize, usize>
+    requires indexed { AreIndexed F.eq F.hash_input rows.now slots.now }
+    requires tag { hint.tag ≡ spec.tag_of (F.hash_input form.now) }
+    ensures index { IfOk result (λ i. position (F.eq form.now) (keys_of rows.now) ≡ Some i) }
+    ensures within { IfOk result (λ i. i < length rows.now) }
+    ensures absent { IfErr result (λ _. position (F.eq form.now) (keys_of rows.now) ≡ None) }
+    ensures free { IfErr result (λ steps. IsFirstEmpty (links_of slots.now) (home_of hint.tag (length slots.now)) steps) }
 {
-    let index = (link_by(tag_of(form), hint.home, hint.next) as usize).wrapping_sub(1);
+    let index = (hint.link() as usize).wrapping_sub(1);
     match rows.get(index) {
-        Some(row) if *form == row.0 => Some(index),
-        _ => find(rows, slots, form),
+        Some(row) if *form == row.0 => Ok(index),
+        _ => find(rows, slots, form, hint.tag),
     }
 }

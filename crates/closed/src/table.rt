@@ -8,6 +8,7 @@ ghost use Rattle.owner_theory.specs.Owners.{Node, marked};
 ghost use Rattle.closed.specs.declared.message.Parent.{Parent};
 ghost use Rattle.closed.specs.declared.table.Outcome.TheVariants.{New, Better, Kept};
 ghost use Rattle.closed.specs.Tables.{padded, was_expanded, reached, outcome_of, outcomes_of, node_with, fresh, arrival};
+ghost use Rattle.closed.specs.Hints.{IsHintFor, AreHintsFor};
 ghost use Rattle.closed.specs.Limits.{IsPastEntry};
 ghost use Rattle.closed.specs.Entries.{entry_in, nodes_of, ever_of, with_entry, taken_back, Notes};
 
@@ -68,8 +69,9 @@ impl<F: StateForm + Drop> Model for ClosedTable<F> {
 }
 
 /// Returns the outcome of reaching the state of a form at a rank, if all keys are forms of states with the same ranges.
-/// A form that equals none of them is new, even if it is no form of a state.
+/// A form that equals none of them is new, even if it is no form of a state. The hint is one for the form.
 fn outcome_among<F: StateForm + Drop>(rows: &Rows<F>, form: &F, rank: Rank, hint: Hint) -> Outcome
+    requires hint { IsHintFor F.hash_input form.now hint }
     ensures outcome { (ranges : List ℕ) (parent : Option Parent) → F.IsForm ranges form.now →
         All (λ p. F.IsForm ranges p.0) rows.now →
         result ≡ outcome_of (nodes_of (F.values ranges) rows.now) (fresh (F.values ranges form.now) rank parent) }
@@ -108,7 +110,8 @@ fn write<F: StateForm + Drop>(
     match outcome {
         Outcome::New(_) => {
             let key = form.copy(*rows.allocator())?;
-            rows.push(key, entry)?;
+            let hint = Hint::of(&key);
+            rows.index_or_push(key, entry, hint)?;
         }
         Outcome::Better(index) => {
             let replacement = entry.in_place_of(rows.entry(index));
@@ -117,6 +120,47 @@ fn write<F: StateForm + Drop>(
         Outcome::Kept => {}
     }
     Ok(())
+}
+
+/// Records that the state of a form was reached, and returns the outcome: the same as `outcome_among`, and then
+/// `write`, in one look-up. Appends the entry that this replaces, if there is one, to `replaced`. The hint is one for
+/// the form. On failure both lists are unchanged.
+fn enter<F: StateForm + Drop>(
+    rows: &mut Rows<F>,
+    form: &F,
+    entry: SmallEntry,
+    hint: Hint,
+    replaced: &mut Vec<(usize, SmallEntry)>,
+) -> Result<Outcome, AllocError>
+    requires form { (ranges : List ℕ) × F.IsForm ranges form.now }
+    requires hint { IsHintFor F.hash_input form.now hint }
+    requires never { entry.ever ≡ false }
+    ensures keys { (ranges : List ℕ) → F.IsForm ranges form.now → All (λ p. F.IsForm ranges p.0) rows.old →
+        All (λ p. F.IsForm ranges p.0) rows.new }
+    ensures outcome { IfOk result (λ o. (ranges : List ℕ) → F.IsForm ranges form.now → All (λ p. F.IsForm ranges p.0) rows.old →
+        o ≡ outcome_of (nodes_of (F.values ranges) rows.old) (node_with (F.values ranges form.now) (entry_in entry))) }
+    ensures nodes { OnOk result ((ranges : List ℕ) → F.IsForm ranges form.now → All (λ p. F.IsForm ranges p.0) rows.old →
+        nodes_of (F.values ranges) rows.new ≡
+        reached (nodes_of (F.values ranges) rows.old) (node_with (F.values ranges form.now) (entry_in entry))) }
+    ensures noted { IfOk result (λ o. (ranges : List ℕ) →
+        Notes (nodes_of (F.values ranges) rows.old) o replaced.old.items replaced.new.items) }
+    ensures ever { OnOk result (ever_of rows.new ≡ padded (ever_of rows.old) (length rows.new)) }
+    ensures unchanged { OnErr result (rows.new ≡ rows.old) }
+    ensures same { OnErr result (replaced.new.items ≡ replaced.old.items) }
+{
+    let len = rows.len();
+    let key = form.copy(*rows.allocator())?;
+    let index = match rows.index_or_push(key, entry, hint)? {
+        None => return Ok(Outcome::New(len)),
+        Some(index) => index,
+    };
+    let old = rows.entry(index);
+    if entry.rank() < old.rank() {
+        replaced.push((index, old))?;
+        rows.set_entry(index, entry.in_place_of(old));
+        return Ok(Outcome::Better(index));
+    }
+    Ok(Outcome::Kept)
 }
 
 impl<F: StateForm + Drop> ClosedTable<F> {
@@ -240,7 +284,8 @@ impl<F: StateForm + Drop> ClosedTable<F> {
         ensures same { self.new ≡ self.old }
     {
         self.sought.repack(&self.layout, state);
-        outcome_among(&self.rows, &self.sought, rank, Hint::NONE)
+        let hint = Hint::of(&self.sought);
+        outcome_among(&self.rows, &self.sought, rank, hint)
     }
 
     /// Records that a state was reached, with the outcome that `look` returned. Fails if allocation fails, which can
@@ -268,25 +313,19 @@ impl<F: StateForm + Drop> ClosedTable<F> {
         write(&mut self.rows, &self.sought, entry, outcome)
     }
 
-    /// Returns the outcome that reaching the state of a form at a rank would have, the same as `look`.
-    pub fn look_form(&self, form: &F, rank: Rank) -> Outcome
-        requires { F.IsForm self.now.ranges form.now }
-        ensures { (parent : Option Parent) →
-            result ≡ outcome_of self.now.nodes (fresh (F.values self.now.ranges form.now) rank parent) }
+    /// Hashes `form` and reads its first slots, and returns these as a hint for it. Reading those of all successors
+    /// before any row lets cache misses overlap.
+    pub fn hint(&self, form: &F) -> Hint
+        ensures { IsHintFor F.hash_input form.now result }
     {
-        self.look_hinted(form, rank, Hint::NONE)
-    }
-
-    /// Reads the first slots for `form`, and returns them as a hint. Reading those of all successors before any row lets
-    /// cache misses overlap.
-    pub fn hint(&self, form: &F) -> Hint {
         self.rows.hint(form)
     }
 
-    /// Returns the same as `look_form`, whatever the hint. With the form's hint a look-up mostly reads one row and no
-    /// slot.
+    /// Returns the outcome that reaching the state of a form at a rank would have, the same as `look`. With the hint,
+    /// one for the form, a look-up mostly reads one row and no slot.
     pub fn look_hinted(&self, form: &F, rank: Rank, hint: Hint) -> Outcome
-        requires { F.IsForm self.now.ranges form.now }
+        requires form { F.IsForm self.now.ranges form.now }
+        requires hint { IsHintFor F.hash_input form.now hint }
         ensures { (parent : Option Parent) →
             result ≡ outcome_of self.now.nodes (fresh (F.values self.now.ranges form.now) rank parent) }
     {
@@ -301,31 +340,8 @@ impl<F: StateForm + Drop> ClosedTable<F> {
         ensures unknown { result ≡ false → F.IsForm self.now.ranges form.now → (parent : Option Parent) →
             outcome_of self.now.nodes (fresh (F.values self.now.ranges form.now) rank parent) ≢ Kept }
     {
-        let outcome = outcome_among(&self.rows, form, rank, Hint::NONE);
+        let outcome = outcome_among(&self.rows, form, rank, Hint::of(form));
         matches!(outcome, Outcome::Kept)
-    }
-
-    /// Records that the state of a form was reached, with the outcome that `look_form` returned. Fails as `reach` does;
-    /// the table is then unchanged.
-    pub fn reach_form(
-        &mut self,
-        form: &F,
-        rank: Rank,
-        parent: Option<Parent>,
-        outcome: Outcome,
-    ) -> Result<(), AllocError>
-        requires form { F.IsForm self.old.ranges form.now }
-        requires outcome { outcome ≡ outcome_of self.old.nodes (fresh (F.values self.old.ranges form.now) rank parent) }
-        ensures nodes { OnOk result (self.new.nodes ≡ reached self.old.nodes (fresh (F.values self.old.ranges form.now) rank parent)) }
-        ensures ever { OnOk result (self.new.ever ≡ padded self.old.ever (length self.new.nodes)) }
-        ensures ranges { self.new.ranges ≡ self.old.ranges }
-        ensures unchanged { OnErr result (self.new ≡ self.old) }
-        ensures refused { OnErr result ((outcome ≡ New (length self.old.nodes)) ⊎ IsPastEntry rank parent) }
-    {
-        let Some(entry) = SmallEntry::of(rank, parent) else {
-            return Err(AllocError);
-        };
-        write(&mut self.rows, form, entry, outcome)
     }
 
     /// Records that a state was reached, and returns the outcome. Fails as `reach` does; the table is then unchanged.
@@ -349,30 +365,17 @@ impl<F: StateForm + Drop> ClosedTable<F> {
         Ok(outcome)
     }
 
-    /// Appends the entry that an outcome replaces, if there is one, to `replaced`, which is unchanged on failure.
-    fn note(
-        &self,
-        outcome: Outcome,
-        replaced: &mut Vec<(usize, SmallEntry)>,
-    ) -> Result<(), AllocError>
-        requires { (i : ℕ) → outcome ≡ Better i → i < length self.now.nodes }
-        ensures noted { OnOk result (Notes self.now.nodes outcome replaced.old.items replaced.new.items) }
-        ensures unchanged { OnErr result (replaced.new.items ≡ replaced.old.items) }
-    {
-        if let Outcome::Better(index) = outcome {
-            replaced.push((index, self.rows.entry(index)))?;
-        }
-        Ok(())
-    }
-
-    /// Records that the state of a message was reached, and appends the entry that this replaces, if there is one, to
-    /// `replaced`. Fails as `reach` does. In either case `take_back` with `replaced` undoes the writes.
+    /// Records that the state of a message was reached, for which this is a hint, and appends the entry that this
+    /// replaces, if there is one, to `replaced`. Fails as `reach` does. In either case `take_back` with `replaced` undoes
+    /// the writes.
     fn reach_noting(
         &mut self,
         message: &Message<F>,
+        hint: Hint,
         replaced: &mut Vec<(usize, SmallEntry)>,
     ) -> Result<Outcome, AllocError>
-        requires { F.IsForm self.old.ranges message.now.state }
+        requires form { F.IsForm self.old.ranges message.now.state }
+        requires hint { IsHintFor F.hash_input message.now.state hint }
         ensures nodes { OnOk result (self.new.nodes ≡ reached self.old.nodes (arrival (F.values self.old.ranges) message.now)) }
         ensures ever { OnOk result (self.new.ever ≡ padded self.old.ever (length self.new.nodes)) }
         ensures same_ever { OnErr result (self.new.ever ≡ self.old.ever) }
@@ -382,21 +385,25 @@ impl<F: StateForm + Drop> ClosedTable<F> {
         ensures taken_back { (len : ℕ) → len ≤ length self.old.nodes →
             taken_back replaced.new.items (take len self.new.nodes) ≡ taken_back replaced.old.items (take len self.old.nodes) }
     {
-        let outcome = self.look_form(&message.state, message.rank);
-        self.note(outcome, replaced)?;
-        self.reach_form(&message.state, message.rank, Some(message.parent), outcome)?;
+        let Some(entry) = SmallEntry::of(message.rank, Some(message.parent)) else {
+            return Err(AllocError);
+        };
+        let outcome = enter(&mut self.rows, &message.state, entry, hint, replaced)?;
         Ok(outcome)
     }
 
-    /// Records that the states of messages were reached, one after the other, with the outcome of each and the entries
-    /// that were replaced. Fails as `reach` does; `take_back` with `replaced` then undoes the writes.
+    /// Records that the states of messages, each with a hint for it, were reached, one after the other, with the outcome
+    /// of each and the entries that were replaced. Fails as `reach` does; `take_back` with `replaced` then undoes the
+    /// writes.
     fn reach_all(
         &mut self,
         messages: &[Message<F>],
+        hints: &[Hint],
         outcomes: &mut Vec<Outcome>,
         replaced: &mut Vec<(usize, SmallEntry)>,
     ) -> Result<(), AllocError>
         requires forms { All (λ m. F.IsForm self.old.ranges m.state) messages.now }
+        requires hints { AreHintsFor F.hash_input messages.now hints.now }
         requires outcomes { outcomes.old.items ≡ [] }
         requires replaced { replaced.old.items ≡ [] }
         requires ever { length self.old.ever ≡ length self.old.nodes }
@@ -407,8 +414,8 @@ impl<F: StateForm + Drop> ClosedTable<F> {
         ensures ranges { self.new.ranges ≡ self.old.ranges }
         ensures taken_back { taken_back replaced.new.items (take (length self.old.nodes) self.new.nodes) ≡ self.old.nodes }
     {
-        for message in messages {
-            let outcome = self.reach_noting(message, replaced)?;
+        for (place, message) in messages.iter().enumerate() {
+            let outcome = self.reach_noting(message, hints[place], replaced)?;
             outcomes.push(outcome)?;
         }
         Ok(())
@@ -447,14 +454,16 @@ impl<F: StateForm + Drop> ClosedTable<F> {
         }
     }
 
-    /// Records that the states of messages were reached, one after the other, and replaces the content of `outcomes` by
-    /// the outcome of each. Fails as `reach` does; the table is then unchanged.
+    /// Records that the states of messages, each with a hint for it, were reached, one after the other, and replaces the
+    /// content of `outcomes` by the outcome of each. Fails as `reach` does; the table is then unchanged.
     pub fn improve_all(
         &mut self,
         messages: &[Message<F>],
+        hints: &[Hint],
         outcomes: &mut Vec<Outcome>,
     ) -> Result<(), AllocError>
-        requires { All (λ m. F.IsForm self.old.ranges m.state) messages.now }
+        requires hints { AreHintsFor F.hash_input messages.now hints.now }
+        requires forms { All (λ m. F.IsForm self.old.ranges m.state) messages.now }
         ensures nodes { OnOk result (self.new.nodes ≡ fold reached self.old.nodes (map (arrival (F.values self.old.ranges)) messages.now)) }
         ensures ever { OnOk result (self.new.ever ≡ padded self.old.ever (length self.new.nodes)) }
         ensures outcomes { OnOk result (outcomes.new.items ≡ outcomes_of self.old.nodes (map (arrival (F.values self.old.ranges)) messages.now)) }
@@ -465,7 +474,7 @@ impl<F: StateForm + Drop> ClosedTable<F> {
         outcomes.clear();
         let mut replaced = Vec::new(*self.rows.allocator()); // takes memory only where a state is improved
         let len = self.len();
-        match self.reach_all(messages, outcomes, &mut replaced) {
+        match self.reach_all(messages, hints, outcomes, &mut replaced) {
             Ok(()) => Ok(()),
             Err(error) => {
                 self.take_back(len, replaced);

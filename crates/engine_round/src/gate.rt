@@ -42,6 +42,10 @@ pub trait Gate {
         true
     }
 
+    /// Called before a search of what a reduction leaves of a task: the numbers of variables and of operators that are left
+    /// out.
+    fn task_reduced(&self, _variables: usize, _operators: usize) {}
+
     /// Called when a search in stages has made the tables of a stage, counted from 1: their number, and that of their
     /// abstract states.
     fn stage_begins(&self, _stage: usize, _tables: usize, _abstract_states: usize) {}

@@ -1,6 +1,5 @@
 -- Bounds as a certificate states them.
 use Rattle.std.proofs.Common.{ℕ, ◌≤◌, ◌^◌, arith}
-use Rattle.std.specs.Prelude.{min}
 use Rattle.std.proofs.lemmas.Grind.{common_steps}
 use Rattle.cost.specs.Distances.{Distance, Finite, Infinite, ◌≤ᵈ◌, IsWithin}
 use Rattle.owner.specs.Owned.{max_total}

@@ -101,19 +101,28 @@ module _ {S : Type 0} (owner : S → List ℕ → ℕ → ℕ) (e : EndOf S) (fa
       )
 
   module _ (ok : IsSearchSpace Sp) where
-    -- no goal node costs less than what was taken
-    pub goal_at_least : (cost v i : ℕ) (n : Node) → IsSettledAt Sp e.owners e.left (Finite cost) → IsGoalNodeAt e v i n → cost ≤ n.cost
-    goal_at_least cost v i n settled g =
+    -- no goal node costs less than the least cost at which a goal state was taken
+    pub goal_above : (v i : ℕ) (n : Node) → IsGoalNodeAt e v i n → least (map (λ o. o.best) e.owners) ≤ᵈ Finite n.cost
+    goal_above v i n g =
         let o : OwnerOf S = g.holder in
+        let best : Distance = least (map (λ (o : OwnerOf S). o.best) e.owners) in
         let known = good Sp v (family.logs v) ok (ends.lawful.runs v) in
         let taken : ((family.logs v).owner.best ≤ᵈ Finite n.cost) =
         known.core.goal i n (subst (λ (ns : List Node). At ns i n) (sym (ends.nodes v o g.owner)) g.there) g.goal in
-        let bound : (Finite cost ≤ᵈ o.best) =
-        each_at (λ (o : OwnerOf S). Finite cost ≤ᵈ o.best) e.owners v o
-        (at_most_each (λ (o : OwnerOf S). o.best) (Finite cost) e.owners
-        (subst (λ (d : Distance). Finite cost ≤ᵈ d) settled.best (at_most_itself (Finite cost)))) g.owner in
-        at_most_through (Finite cost) o.best (Finite n.cost) bound
+        let bound : (best ≤ᵈ o.best) =
+        each_at (λ (o : OwnerOf S). best ≤ᵈ o.best) e.owners v o
+        (at_most_each (λ (o : OwnerOf S). o.best) best e.owners (at_most_itself best)) g.owner in
+        at_most_through best o.best (Finite n.cost) bound
         (subst (λ (d : Distance). d ≤ᵈ Finite n.cost) (ends.best v o g.owner) taken)
+
+    goal_at_least : (cost v i : ℕ) (n : Node) → IsSettledAt Sp e.owners e.left (Finite cost) → IsGoalNodeAt e v i n → cost ≤ n.cost
+    goal_at_least cost v i n settled g = subst (λ (d : Distance). d ≤ᵈ Finite n.cost) (sym settled.best) (goal_above v i n g)
+
+    -- a goal node has that cost
+    pub goal_with_best : (cost : ℕ) → least (map (λ o. o.best) e.owners) ≡ Finite cost → (w : ℕ) × (j : ℕ) × (n : Node) × IsGoalNodeAt e w j n × (n.cost ≡ cost)
+    goal_with_best cost is =
+        let (w, j, found) = best_node Sp family ok ends.lawful cost (sym best_same ∙ is) in
+        let (n, goal, same) = goal_node w j cost found in (w, j, n, goal, same)
 
     -- the best goal node costs what the end is settled at
     pub best_cost : (v i cost : ℕ) (best : IsBestGoal e (Some (v, i))) → IsSettledAt Sp e.owners e.left (Finite cost) → best.0.cost ≡ cost

@@ -3,6 +3,7 @@ pub mod Following
 pub mod Places
 pub mod Leasts
 pub mod Pending
+pub mod FirstPlaces
 pub mod BestGoals
 pub mod Families
 pub mod Bounds

@@ -1,7 +1,7 @@
 -- The lower bound of an end: no plan costs less, whether the owners are settled or not.
 use Rattle.std.specs.Prelude.{ℕ, List, min, map}
 use Rattle.cost.specs.Distances.{Distance, Finite, Infinite, lesser, least}
-use Rattle.owner.specs.Owned.{OwnerOf, max_total}
+use Rattle.owner.specs.Owned.{max_total}
 use Rattle.extract.specs.Ends.{EndOf}
 use Rattle.extract.specs.Pending.{least_held, least_packet}
 

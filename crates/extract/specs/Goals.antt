@@ -1,33 +1,31 @@
--- The goal nodes of owners, by owner and index, and the first of least cost.
-use Rattle.std.specs.Prelude.{ℕ, suc, Bool, true, ◌&&◌, nat_lt, if◌then◌else◌, List, [], ◌∷◌, Option, Some, None}
+-- The first goal node of a cost, by owner and index.
+use Rattle.std.specs.Prelude.{ℕ, suc, Bool, ◌&&◌, ◌==◌, if◌then◌else◌, List, [], ◌∷◌, Option, Some, None}
+use Rattle.cost.specs.Distances.{Distance, Finite, Infinite}
 use Rattle.fdr.specs.Tasks.{FiniteDomainTask, is_goal_state}
 use Rattle.owner_theory.specs.Owners.{Node}
 use Rattle.owner.specs.Owned.{OwnerOf}
-use Rattle.extract.specs.declared.best.Found.{Found}
 
--- a node of this cost is cheaper than the one found so far
-abbrev pub is_cheaper : ℕ → Option Found → Bool
-is_cheaper cost None = true
-is_cheaper cost (Some found) = nat_lt cost found.cost
+-- the node has this cost and a goal state
+abbrev pub is_goal_at : FiniteDomainTask → ℕ → Node → Bool
+is_goal_at task cost n = (n.cost == cost) && is_goal_state task n.state
 
--- the result after one more node, node i of owner v
-abbrev pub better : FiniteDomainTask → ℕ → ℕ → Node → Option Found → Option Found
-better task v i n found =
-    if is_goal_state task n.state && is_cheaper n.cost found
-    then Some (record { cost = n.cost; worker = v; index = i })
-    else found
+-- the index of the first element that passes the test, if these elements have the indices from `i` on
+abbrev pub first_from : {X : Type 0} → (X → Bool) → ℕ → List X → Option ℕ
+first_from test i [] = None
+first_from test i (x ∷ xs) = if test x then Some i else first_from test (suc i) xs
 
--- the result after these nodes of owner v, the first of which is node i
-abbrev pub best_from : FiniteDomainTask → ℕ → ℕ → List Node → Option Found → Option Found
-best_from task v i [] found = found
-best_from task v i (n ∷ ns) found = best_from task v (suc i) ns (better task v i n found)
+-- this row with that index, or the later pair if there is no index
+abbrev pub here_or_later : ℕ → Option ℕ → Option (ℕ × ℕ) → Option (ℕ × ℕ)
+here_or_later v (Some i) later = Some (v, i)
+here_or_later v None later = later
 
--- the result after these owners, the first of which is owner v
-abbrev pub best_over : {S : Type 0} → FiniteDomainTask → ℕ → List (OwnerOf S) → Option Found → Option Found
-best_over task v [] found = found
-best_over task v (o ∷ os) found = best_over task (suc v) os (best_from task v 0 o.nodes found)
+-- the row and the index of the first element of these rows that passes the test, if the rows have the numbers from `v`
+-- on
+abbrev pub first_in_rows : {X Y : Type 0} → (Y → List X) → (X → Bool) → ℕ → List Y → Option (ℕ × ℕ)
+first_in_rows row test v [] = None
+first_in_rows row test v (y ∷ ys) = here_or_later v (first_from test 0 (row y)) (first_in_rows row test (suc v) ys)
 
--- the owner and the index of the node that was found
-abbrev pub place_of : Option Found → Option (ℕ × ℕ)
-place_of None = None
-place_of (Some found) = Some (found.worker, found.index)
+-- the owner and the index of the first goal node of this cost; none if the cost is infinite
+abbrev pub first_goal : {S : Type 0} → FiniteDomainTask → Distance → List (OwnerOf S) → Option (ℕ × ℕ)
+first_goal task (Finite cost) owners = first_in_rows (λ o. o.nodes) (is_goal_at task cost) 0 owners
+first_goal task Infinite owners = None

@@ -7,7 +7,7 @@ ghost use Rattle.extract.specs.Ends.{EndOf, IsEndOf, IsSettledAnswer, IsBestGoal
 ghost use Rattle.extract.specs.Bounds.{lower_bound};
 ghost use Rattle.extract.specs.Views.{all_packets};
 
-use crate::best::best_of_owners;
+use crate::best::first_best;
 use crate::packet::Packet;
 use crate::settled::{lower_bound, settled_bound};
 use cost::Dist;
@@ -81,10 +81,8 @@ impl<'a, S: Spread + Drop, F: StateForm + Drop> Joined<'a, S, F> {
     pub fn best(&self, alloc: Global) -> Result<Option<(usize, usize)>, AllocError>
         ensures { IfOk result (IsBestGoal self.now) }
     {
-        match best_of_owners(alloc, self.space, &self.owners)? {
-            Some(found) => Ok(Some((found.worker, found.index))),
-            None => Ok(None),
-        }
+        self.recall();
+        first_best(alloc, self.space, &self.owners)
     }
 
     /// Returns the space that was searched.

@@ -31,7 +31,8 @@ const MOST_LEVELS: usize = 64;
 /// A node gets a table of a variable's values if the operators that test the variable next are more than one, and at
 /// least a quarter as many as its values. Otherwise each of these operators is tested separately, as is one that has
 /// passed `MOST_LEVELS` tables. So memory is linear in the lengths of the preconditions. The cost for a state is a step
-/// for each visited node, a test for each of the node's operators, and sorting the result.
+/// for each visited node, a test for each of the node's operators, and sorting the result if it is not in order; it is
+/// if the operators are numbered as `walk_order` lists them.
 #[derive(Drop)]
 pub struct SuccessorGenerator<'a> {
     task: &'a FdrTask,
@@ -159,7 +160,10 @@ impl<'a> SuccessorGenerator<'a> {
         found.clear(); // what an earlier state left
         match self.gather(state, found) {
             Ok(()) => {
-                found.sort_unstable();
+                // they are, if the operators are numbered in the order of the walk
+                if !found.is_sorted() {
+                    found.sort_unstable();
+                }
                 Ok(())
             }
             Err(error) => {

@@ -12,3 +12,4 @@ mod tree;
 
 pub use generator::SuccessorGenerator;
 pub use laws::{applicable_operators_are_those_that_apply, worked_example};
+pub use order::walk_order;

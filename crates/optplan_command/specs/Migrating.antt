@@ -1,10 +1,11 @@
--- The conversion of a certificate to version 2: the arguments that request it, the answer for the certificate's text,
--- and what the command does.
+-- The conversion of a certificate of version 1 to version 2: the arguments that request it, the answer for the
+-- certificate's text, and what the command does.
 use Rattle.std.specs.Prelude.{◌≡◌, ◌≢◌, ℕ, true, List, [], ◌∷◌, ◌++◌, Err, codes}
 use Rattle.optplan_device.specs.Events.{Event, HasRead}
 use Rattle.cert_value.specs.Certificates.{CertificateValue}
 use Rattle.cert_value.specs.Lawful.{IsLawful}
-use Rattle.cert_value.specs.declared.certificate.Version.TheVariants.{Two}
+use Rattle.cert_value.specs.declared.certificate.Version.{Version}
+use Rattle.cert_value.specs.declared.certificate.Version.TheVariants.{One, Two, Three}
 use Rattle.cert_text.specs.Spelling.{spelling}
 use Rattle.cert_text.specs.Reading.{certificate_of}
 use Rattle.cert_text.specs.declared.fault.CertFault.TheVariants as cert_fault
@@ -20,14 +21,20 @@ pub record AskForMigration (words : List (List ℕ)) (cert : List ℕ) : Type 0 
   pub are : words ≡ program ∷ codes "migrate-cert" ∷ cert ∷ []
   pub cert_is : is_operand cert ≡ true
 
--- the first text spells a certificate, and the second the same certificate in version 2
+-- version 1 becomes 2, and the others stay
+abbrev pub version_after : Version → Version
+version_after One = Two
+version_after Two = Two
+version_after Three = Three
+
+-- the first text spells a certificate, and the second the same certificate in the version to which it is converted
 pub record IsMigrated (cert text : List ℕ) : Type 0 where
   pub certificate : CertificateValue
   pub lawful : IsLawful certificate
   pub spelled : cert ≡ spelling certificate
-  pub text_is : text ≡ spelling (record certificate { version = Two })
+  pub text_is : text ≡ spelling (record certificate { version = version_after certificate.version })
 
--- the text is that of version 2, and the status is `Done`
+-- the text is that of the converted certificate, and the status is `Done`
 abbrev pub IsMigrationAnswer : List ℕ → List ℕ → Status → Type 0
 IsMigrationAnswer cert text status = IsMigrated cert text × (status ≡ Done)
 
@@ -44,7 +51,7 @@ IsMigrationRefusal cert GroundLimit = ⊥
 IsMigrationRefusal cert (TaskTooLarge table) = ⊥
 IsMigrationRefusal cert TotalTooLarge = ⊥
 
--- the file is read; then the text of version 2 is printed, or the file's text is refused
+-- the file is read; then the converted text is printed, or the file's text is refused
 pub record Migrates (old new : List Event) (cert : List ℕ) (status : Status) : Type 0 where
   pub cert_text : List ℕ
   pub later : List Event

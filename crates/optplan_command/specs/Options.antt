@@ -53,6 +53,19 @@ IsTablesOf false (Some text) tables = NamesTables text tables
 IsTablesOf true None tables = tables ≡ Goal
 IsTablesOf true (Some text) tables = (text ≡ codes "goal") × (tables ≡ Goal)
 
+-- the text says whether there is a reduction
+abbrev pub NamesReduction : List ℕ → Bool → Type 0
+NamesReduction text true = text ≡ codes "on"
+NamesReduction text false = text ≡ codes "off"
+
+-- whether an option with this value requests a reduction: by default it does; with a schedule of random steps there is
+-- none, and that is the only value
+abbrev pub IsReductionOf : Bool → Option (List ℕ) → Bool → Type 0
+IsReductionOf false None reduction = reduction ≡ true
+IsReductionOf false (Some text) reduction = NamesReduction text reduction
+IsReductionOf true None reduction = reduction ≡ false
+IsReductionOf true (Some text) reduction = (text ≡ codes "off") × (reduction ≡ false)
+
 -- the size of tables, and a schedule of random steps, require tables from the goal
 abbrev pub requires_goal : (List ℕ → Option (List ℕ)) → Bool
 requires_goal value = is_some (value (codes "table")) || is_some (value (codes "simulate"))
@@ -68,6 +81,7 @@ pub record AreChoicesOf (value : List ℕ → Option (List ℕ)) (choices : Choi
   pub tables : IsTablesOf (requires_goal value) (value (codes "tables")) choices.tables
   pub stage_ends : choices.stage_ends ≡ 60000 ∷ 700000 ∷ 15000000 ∷ []
   pub certificate : choices.certificate ≡ is_some (value (codes "cert"))
+  pub reduction : IsReductionOf (is_some (value (codes "simulate"))) (value (codes "reduce")) choices.reduction
 
 -- the schedule from a seed, seconds and a memory: random steps from the seed, whatever the others are; or, if there is
 -- no seed, threads, with these seconds and this memory, if there are any

@@ -1,24 +1,41 @@
-//! The command that prints a certificate as version 2, over any device.
+//! The command that prints a certificate of version 1 as version 2, over any device.
 
 ghost use Rattle.std.specs.Prelude.{◌≡◌, ◌≢◌, ◌≤◌, ◌+◌, List, Some, IfOk, IfErr};
+ghost use Rattle.cert_value.specs.Classes.{has_classes};
 ghost use Rattle.optplan_device.specs.Events.{Event};
-ghost use Rattle.optplan_command.specs.Migrating.{IsMigrated, IsMigrationRefusal, Migrates};
+ghost use Rattle.optplan_command.specs.Migrating.{version_after, IsMigrated, IsMigrationRefusal, Migrates};
 
 use crate::translation::reply_text;
-use cert_text::{read_cert, write_cert};
+use cert_text::read_cert;
 use cert_value::Version;
+use cert_writer::write_cert;
 use optplan_device::Device;
 use optplan_replies::{Fault, FileWord, Status, read_file, report};
 use std::alloc::Global;
 
-/// Returns the text of the certificate as version 2. The input text is dropped before that one is made. Fails with the
+/// Returns the version to which a certificate of this version is converted.
+fn version_after(version: Version) -> Version
+    ensures after { result ≡ version_after version }
+    ensures classes { has_classes result ≡ has_classes version }
+{
+    match version {
+        Version::One => Version::Two,
+        Version::Two => Version::Two,
+        Version::Three => Version::Three,
+    }
+}
+
+/// Returns the text of the converted certificate. The input text is dropped before that one is made. Fails with the
 /// first fault of the text, or if allocation fails.
 fn migrated(alloc: Global, cert: Vec<u8>) -> Result<Vec<u8>, Fault>
     ensures text { IfOk result (λ text. IsMigrated cert.items text.items) }
     ensures refused { IfErr result (IsMigrationRefusal cert.items) }
 {
     let certificate = match read_cert(alloc, &cert) {
-        Ok(certificate) => certificate.with_version(Version::Two),
+        Ok(certificate) => {
+            let version = version_after(certificate.version());
+            certificate.with_version(version)
+        }
         Err(fault) => return Err(Fault::from(fault)),
     };
     drop(cert);
@@ -28,7 +45,8 @@ fn migrated(alloc: Global, cert: Vec<u8>) -> Result<Vec<u8>, Fault>
     }
 }
 
-/// Prints a certificate as version 2: reads the file, and prints the text or reports the fault of the file's text.
+/// Prints a certificate, one of version 1 as version 2: reads the file, and prints the text or reports the fault of the
+/// file's text.
 /// Returns the exit status.
 pub fn run_migration<D: Device>(alloc: Global, device: &mut D, cert: &str) -> Status
     ensures done { (h : List Event) → D.history device.old ≡ Some h → D.failure_count device.new ≡ D.failure_count device.old → result ≢ Status.OutOfMemory →

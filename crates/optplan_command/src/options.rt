@@ -1,13 +1,13 @@
 //! The values of options.
 
-ghost use Rattle.std.specs.Prelude.{◌≡◌, ◌≢◌, ◌≤◌, ◌⊎◌, ℕ, Option, IfOk, IfErr, IfSome, IfNone, SomeIff, codes};
+ghost use Rattle.std.specs.Prelude.{◌≡◌, ◌≢◌, ◌≤◌, ◌⊎◌, ℕ, Bool, Option, IfOk, IfErr, IfSome, IfNone, SomeIff, codes};
 ghost use Rattle.std.specs.Str.Parse.{digits_value};
 ghost use Rattle.clap.specs.Matches.{found_of, first_value};
 ghost use Rattle.clap.specs.Words.{kind_of};
 ghost use Rattle.clap.specs.declared.error.kind.ErrorKind.TheVariants.{OutOfMemory, ValueValidation};
 ghost use Rattle.owner_space.specs.declared.ties.Ties.{Ties as TiesOf};
 ghost use Rattle.optplan_options.specs.declared.options.Tables.{Tables as TablesOf};
-ghost use Rattle.optplan_command.specs.Options.{IsNumberIn, IsNumberOf, NamesTies, IsTiesOf, NamesTables, IsTablesOf};
+ghost use Rattle.optplan_command.specs.Options.{IsNumberIn, IsNumberOf, NamesTies, IsTiesOf, NamesTables, IsTablesOf, NamesReduction, IsReductionOf};
 
 use clap::error::ErrorKind;
 use clap::{ArgMatches, Command, Error};
@@ -25,6 +25,10 @@ enum Taken {
     Tables,
     /// The name of tables from the goal, which other options require.
     Goal,
+    /// Whether there is a reduction.
+    Reduction,
+    /// That there is no reduction, which another option requires.
+    NoReduction,
 }
 
 /// A value that is refused for an option.
@@ -58,6 +62,12 @@ impl<'a> RefusedValue<'a> {
             ),
             Taken::Goal => format!(in alloc;
                 "invalid value '{value}' for '--{option}': only goal goes with --table or --simulate"
+            ),
+            Taken::Reduction => format!(in alloc;
+                "invalid value '{value}' for '--{option}': neither on nor off"
+            ),
+            Taken::NoReduction => format!(in alloc;
+                "invalid value '{value}' for '--{option}': only off goes with --simulate"
             ),
         };
         let Ok(message) = message else {
@@ -183,6 +193,43 @@ pub(crate) fn tables_for<'a>(
         None => Taken::Tables,
         Some(Tables::Staged) if requires_goal => Taken::Goal,
         Some(tables) => return Ok(tables),
+    };
+    Err(RefusedValue {
+        option,
+        value,
+        taken,
+    })
+}
+
+/// Returns whether a text requests a reduction, if it says so.
+fn reduction_named(text: &str) -> Option<bool>
+    ensures named { IfSome result (NamesReduction text.now) }
+    ensures neither { IfNone result ((text.now ≢ codes "on") × (text.now ≢ codes "off")) }
+{
+    match text {
+        "on" => Some(true),
+        "off" => Some(false),
+        _ => None,
+    }
+}
+
+/// Returns whether the option requests a reduction. If it is absent, it does, but not for a schedule of random steps,
+/// which has none. Fails if the value does not say so, or requests one for such a schedule.
+pub(crate) fn reduction_for<'a>(
+    words: &ArgMatches<'a>,
+    option: &'a str,
+    is_simulated: bool,
+) -> Result<bool, RefusedValue<'a>>
+    ensures taken { IfOk result (IsReductionOf is_simulated (first_value (found_of words.now) option.entry.now)) }
+    ensures refused { IfErr result (λ _. (reduction : Bool) → IsReductionOf is_simulated (first_value (found_of words.now) option.entry.now) reduction → ⊥) }
+{
+    let Some(value) = words.get_str(option) else {
+        return Ok(!is_simulated);
+    };
+    let taken = match reduction_named(value) {
+        None => Taken::Reduction,
+        Some(true) if is_simulated => Taken::NoReduction,
+        Some(reduction) => return Ok(reduction),
     };
     Err(RefusedValue {
         option,

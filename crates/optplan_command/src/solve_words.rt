@@ -11,7 +11,7 @@ ghost use Rattle.optplan_command.specs.Options.{AreChoicesOf, IsScheduleOf, AreS
 ghost use Rattle.optplan_command.specs.SolveWords.{HasRefusedValue};
 ghost use Rattle.optplan_command.specs.SolvingCommands.{name_of, Solved};
 
-use crate::options::{RefusedValue, number_for, tables_for, ties_for};
+use crate::options::{RefusedValue, number_for, reduction_for, tables_for, ties_for};
 use clap::{ArgMatches, Command, Error};
 use optplan_device::Device;
 use optplan_replies::Status;
@@ -26,8 +26,9 @@ use std::time::Clock;
 /// The greatest number of most options, 2^63 - 1.
 const MAX_NUMBER: u64 = 9_223_372_036_854_775_807;
 
-/// Returns the options of the search; an option that the arguments omit is as in `Options::new`, but a certificate is
-/// made only if its file is named. Fails with the first value that is refused.
+/// Returns the options of the search; an option that the arguments omit is as in `Options::new`, but threads search in
+/// stages and with a reduction, and a certificate is made only if its file is named. Fails with the first value that is
+/// refused.
 fn search_options<'a>(words: &ArgMatches<'a>) -> Result<Options, RefusedValue<'a>>
     ensures taken { IfOk result (AreChoicesOf (λ name. first_value (found_of words.now) name)) }
     ensures refused { IfErr result (λ _. (choices : Choices) → AreChoicesOf (λ name. first_value (found_of words.now) name) choices → ⊥) }
@@ -44,6 +45,7 @@ fn search_options<'a>(words: &ArgMatches<'a>) -> Result<Options, RefusedValue<'a
     let ties = ties_for(words, "ties", is_simulated)?;
     let requires_goal = words.get_str("table").is_some() || is_simulated;
     let tables = tables_for(words, "tables", requires_goal)?;
+    let has_reduction = reduction_for(words, "reduce", is_simulated)?;
     let has_certificate = words.get_str("cert").is_some();
     let options = plain
         .with_workers(workers as usize)
@@ -52,6 +54,7 @@ fn search_options<'a>(words: &ArgMatches<'a>) -> Result<Options, RefusedValue<'a
         .with_steps(steps)
         .with_ties(ties)
         .with_certificate(has_certificate)
+        .with_reduction(has_reduction)
         .with_tables(tables);
     match limit {
         Some(limit) => Ok(options.with_limit(limit)),

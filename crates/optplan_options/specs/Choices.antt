@@ -6,7 +6,8 @@ use Rattle.optplan_options.specs.declared.options.Tables.{Tables}
 -- the number of owners, the greatest number of abstract states of a table, the greatest number of nodes that each owner
 -- may expand in a search, if there is a limit, the capacity of a link between two workers in messages, the greatest
 -- number of steps of a simulation, the order of expansion among nodes of the same f-value, whether a multi-threaded
--- solver searches in stages, the numbers of states at which these end, and whether a certificate is made
+-- solver searches in stages, the numbers of states at which these end, whether a certificate is made, and whether a
+-- multi-threaded solver searches what a reduction leaves of the task
 pub record Choices : Type 0 where
   pub workers : ℕ
   pub table : ℕ
@@ -17,3 +18,4 @@ pub record Choices : Type 0 where
   pub tables : Tables
   pub stage_ends : List ℕ
   pub certificate : Bool
+  pub reduction : Bool

@@ -1,6 +1,6 @@
 //! Options of the solver.
 
-ghost use Rattle.std.specs.Prelude.{◌≡◌, ◌≤◌, ◌^◌, ◌∷◌, [], Some, None, true};
+ghost use Rattle.std.specs.Prelude.{◌≡◌, ◌≤◌, ◌^◌, ◌∷◌, [], Some, None, true, false};
 
 use owner_space::Ties;
 use std::marker::Model;
@@ -34,7 +34,7 @@ pub enum Tables {
 /// the limit on the nodes that each owner expands in each search, if there is one, the capacity of a link between two
 /// workers in messages (1 to 65,536), the greatest number of steps of a simulation, the order of expansion among nodes
 /// of the same f-value, whether a multi-threaded solver searches in stages, the numbers of states at which these end,
-/// and whether a certificate is made.
+/// whether a certificate is made, and whether a multi-threaded solver searches what a reduction leaves of the task.
 #[derive(Debug, Drop)]
 pub struct Options {
     workers: usize,
@@ -46,6 +46,7 @@ pub struct Options {
     tables: Tables,
     stage_ends: [usize; STAGES],
     certificate: bool,
+    reduction: bool,
 }
 
 impl Model for Options {
@@ -54,7 +55,7 @@ impl Model for Options {
 
     ghost Value = { Choices };
 
-    ghost view = { λ o. record { workers = o.workers; table = o.table; limit = o.limit; ring = o.ring; steps = o.steps; ties = o.ties; tables = o.tables; stage_ends = o.stage_ends; certificate = o.certificate } };
+    ghost view = { λ o. record { workers = o.workers; table = o.table; limit = o.limit; ring = o.ring; steps = o.steps; ties = o.ties; tables = o.tables; stage_ends = o.stage_ends; certificate = o.certificate; reduction = o.reduction } };
 
     ghost invariant = { λ o. (1 ≤ o.workers) × (o.workers ≤ 64) × (1 ≤ o.table) × (o.table ≤ 2 ^ 24) × (1 ≤ o.ring) × (o.ring ≤ 2 ^ 16) };
 }
@@ -62,7 +63,7 @@ impl Model for Options {
 impl Options {
     /// Returns the defaults: 4 owners, tables of at most 100,000 abstract states, no limit on expansions, links with
     /// room for 64 messages, 1,000,000 steps of a simulation, the order `Shallow`, one search, stages that end at
-    /// 60,000, 700,000 and 15,000,000 states, and a certificate.
+    /// 60,000, 700,000 and 15,000,000 states, a certificate, and no reduction.
     pub fn new() -> Options
         ensures { result ≡ record {
           workers = 4;
@@ -74,6 +75,7 @@ impl Options {
           tables = Tables.Goal;
           stage_ends = 60000 ∷ 700000 ∷ 15000000 ∷ [];
           certificate = true;
+          reduction = false;
         } }
     {
         Options {
@@ -86,6 +88,7 @@ impl Options {
             tables: Tables::Goal,
             stage_ends: STAGE_ENDS,
             certificate: true,
+            reduction: false,
         }
     }
 
@@ -166,6 +169,14 @@ impl Options {
         }
     }
 
+    /// Returns these options with a reduction of the task before a multi-threaded search, or without one: what no goal
+    /// needs is left out.
+    pub fn with_reduction(self, reduction: bool) -> Options
+        ensures { result ≡ record self { reduction = reduction } }
+    {
+        Options { reduction, ..self }
+    }
+
     /// Returns the number of owners.
     pub fn workers(&self) -> usize
         ensures value { result ≡ self.now.workers }
@@ -233,5 +244,12 @@ impl Options {
         ensures { result ≡ self.now.certificate }
     {
         self.certificate
+    }
+
+    /// Returns whether a multi-threaded solver searches what a reduction leaves of the task.
+    pub fn reduction(&self) -> bool
+        ensures { result ≡ self.now.reduction }
+    {
+        self.reduction
     }
 }

@@ -5,7 +5,7 @@ use Rattle.std.specs.Global.{Global}
 use Rattle.std.specs.Option.{option_map}
 use Rattle.std.specs.Bool.{then_some}
 use Rattle.cost.specs.Distances.{Finite, Infinite}
-use Rattle.fdr.specs.Tasks.{FiniteDomainTask, HasNoPlan}
+use Rattle.fdr.specs.Tasks.{FiniteDomainTask}
 use Rattle.pddl_task.specs.Planning.{PlanningTask}
 use Rattle.pddl.specs.Texts.{SpellTask}
 use Rattle.cert_value.specs.Certificates.{Kind, CertificateValue}
@@ -15,18 +15,18 @@ use Rattle.translate.specs.Translated.{TranslatedTask, IsTranslation, HasSamePla
 use Rattle.validate.specs.Steps.{Step}
 use Rattle.packed_spread.specs.Spreads as spread
 use Rattle.packed_spread.specs.Spreads.{zobrist_owner}
-use Rattle.optplan_sas.specs.SearchEnds.{EndsOf, least_best_of}
+use Rattle.optplan_search.specs.SearchEnds.{EndsOf, least_best_of}
 use Rattle.optplan_kind.specs.Kinds.{translation_kind}
-use Rattle.optplan_sas.specs.Findings.{IsCertifiedBy, IsSolution, IsSoFar, IsFound, IsFinding, IsTrueOf, IsSettledEnd, IsShortEnd}
+use Rattle.optplan_search.specs.Findings.{Wanted, wants, IsSolution, IsSoFar, IsFoundFor, IsFinding, IsTrueOf, IsSettledEnd, IsShortEnd}
 use Rattle.optplan_sas.specs.declared.answer.CheapestPlan.{CheapestPlan}
 use Rattle.optplan_sas.specs.declared.answer.KnownSoFar.{KnownSoFar}
 use Rattle.optplan_sas.specs.declared.answer.Answer.TheVariants as answer
-use Rattle.optplan_sas.specs.declared.found.Solution.{Solution}
-use Rattle.optplan_sas.specs.declared.found.SoFar.{SoFar}
-use Rattle.optplan_sas.specs.declared.found.Found.{Found}
-use Rattle.optplan_sas.specs.declared.found.Found.TheVariants.{Solved, Unsolvable, Stopped}
-use Rattle.optplan_sas.specs.declared.fault.SearchFault.{SearchFault}
-use Rattle.optplan_sas.specs.declared.fault.SearchFault.TheVariants as search
+use Rattle.optplan_search.specs.declared.found.Solution.{Solution}
+use Rattle.optplan_search.specs.declared.found.SoFar.{SoFar}
+use Rattle.optplan_search.specs.declared.found.Found.{Found}
+use Rattle.optplan_search.specs.declared.found.Found.TheVariants.{Solved, Unsolvable, Stopped}
+use Rattle.optplan_search.specs.declared.fault.SearchFault.{SearchFault}
+use Rattle.optplan_search.specs.declared.fault.SearchFault.TheVariants as search
 use Rattle.optplan_pddl.specs.Faults.{fault_of_search}
 use Rattle.optplan_pddl.specs.Answers.{PlanningAnswer, IsPlanningSolution, IsPlanningKnown, IsAnswerFor, IsPlanningAnswer, IsPlanningRefusal}
 use Rattle.optplan_pddl.specs.Prepared.{IsPrepared}
@@ -37,34 +37,28 @@ use Rattle.optplan_pddl.proofs.Accepting.{accepted_if}
 
 -- ---- texts of what was found
 
-module _ (wanted : Bool) (domain problem : List ℕ) (task : PlanningTask) (t : TranslatedTask) (es : EndsOf spread.Zobrist) (spells : SpellTask domain problem task)
-    (made : IsTranslation task t) (plans : HasSamePlans task t) (same : es.last.space.task ≡ t.task) where
-  abbrev kind : Option Kind
-  kind = then_some wanted (translation_kind task t)
+module _ (wanted : Bool) (classes : List (List ℕ)) (domain problem : List ℕ) (task : PlanningTask) (t : TranslatedTask) (es : EndsOf spread.Zobrist)
+    (spells : SpellTask domain problem task) (made : IsTranslation task t) (plans : HasSamePlans task t)
+  where
+    abbrev certificate : Option Wanted
+    certificate = wants classes (then_some wanted (translation_kind task t))
 
-  pub solved_answer : (s : Solution) (p : CheapestPlan (Vec Step Global)) → IsFound zobrist_owner es kind (Solved s)
-      → (IsSolution t.task kind s → IsPlanningSolution wanted domain problem task p) → p.found.cost ≡ s.found.cost
-      → IsAnswerFor wanted domain problem task es (answer.Solved p)
-  solved_answer s p found texts cost = (
-    texts (subst (λ (x : FiniteDomainTask). IsSolution x kind s) same found.0),
-    subst (λ (n : ℕ). IsSettledEnd zobrist_owner es.last (Finite n)) (sym cost) found.1,
-  )
+    pub solved_answer : (s : Solution) (p : CheapestPlan (Vec Step Global)) → IsFoundFor t.task zobrist_owner es certificate (Solved s)
+        → (IsSolution t.task certificate s → IsPlanningSolution wanted domain problem task p) → p.found.cost ≡ s.found.cost
+        → IsAnswerFor wanted domain problem task es (answer.Solved p)
+    solved_answer s p found texts cost =
+        (texts found.0, subst (λ (n : ℕ). IsSettledEnd zobrist_owner es.last (Finite n)) (sym cost) found.1)
 
-  pub unsolvable_answer : (c : Option CertificateValue) (cert : Option (Vec ℕ Global)) → IsFound zobrist_owner es kind (Unsolvable c)
-      → option_map (λ x. x.items) cert ≡ option_map spelling c → IsAnswerFor wanted domain problem task es (answer.Unsolvable cert)
-  unsolvable_answer c cert (none, certified, ended) is = (
-    plans.none.0 (subst HasNoPlan same none),
-    accepted_if domain problem task t spells made plans wanted Infinite c cert (subst (λ (x : FiniteDomainTask). IsCertifiedBy x kind Infinite c) same certified) is,
-    ended,
-  )
+    pub unsolvable_answer : (c : Option CertificateValue) (cert : Option (Vec ℕ Global)) → IsFoundFor t.task zobrist_owner es certificate (Unsolvable c)
+        → option_map (λ x. x.items) cert ≡ option_map spelling c → IsAnswerFor wanted domain problem task es (answer.Unsolvable cert)
+    unsolvable_answer c cert (none, certified, ended) is =
+        (plans.none.0 none, accepted_if domain problem task t spells made plans wanted classes Infinite c cert certified is, ended)
 
-  pub limit_answer : (s : SoFar) (known : KnownSoFar (Vec Step Global)) → IsFound zobrist_owner es kind (Stopped s)
-      → (IsSoFar t.task kind (least_best_of es) s → IsPlanningKnown wanted domain problem task (least_best_of es) known) → known.bound ≡ s.bound
-      → IsAnswerFor wanted domain problem task es (answer.Limit known)
-  limit_answer s known found texts bound = (
-    texts (subst (λ (x : FiniteDomainTask). IsSoFar x kind (least_best_of es) s) same found.0),
-    subst (λ (n : ℕ). IsShortEnd zobrist_owner es n) (sym bound) found.1,
-  )
+    pub limit_answer : (s : SoFar) (known : KnownSoFar (Vec Step Global)) → IsFoundFor t.task zobrist_owner es certificate (Stopped s)
+        → (IsSoFar t.task certificate (least_best_of es) s → IsPlanningKnown wanted domain problem task (least_best_of es) known) → known.bound ≡ s.bound
+        → IsAnswerFor wanted domain problem task es (answer.Limit known)
+    limit_answer s known found texts bound =
+        (texts found.0, subst (λ (n : ℕ). IsShortEnd zobrist_owner es n) (sym bound) found.1)
 
 -- ---- refusals
 
@@ -97,12 +91,12 @@ module _ (wanted : Bool) (domain problem : List ℕ) (p : Prepared) (is : IsPrep
   -- what is found is true of the translation
   pub found_true : (ends : FiniteDomainTask → EndsOf spread.Zobrist → Type 0) (f : Found) → IsFinding over (option_map kind_of p.wanted) (ends over) f
       → (b : Bool) × ((task : PlanningTask) × IsTrueOf p.translated.task (then_some b (translation_kind task p.translated)) f)
-  found_true ends f found = let is_found = found_of ends f found in (wanted, (is.task, (is_found.at, is_found.task_is, is_found.found)))
+  found_true ends f found = let is_found = found_of ends f found in (wanted, (is.task, (is_found.at, (is_found.classes, is_found.found))))
 
   -- its texts are the answer
   pub answer_for : (ends : FiniteDomainTask → EndsOf spread.Zobrist → Type 0) (f : Found) (given : PlanningAnswer) → IsFinding over (option_map kind_of p.wanted) (ends over) f
-      → ((b : Bool) (d q : List ℕ) (task : PlanningTask) (es : EndsOf spread.Zobrist) → SpellTask d q task → IsTranslation task p.translated
-      → HasSamePlans task p.translated → es.last.space.task ≡ p.translated.task → IsFound zobrist_owner es (then_some b (translation_kind task p.translated)) f
+      → ((b : Bool) (classes : List (List ℕ)) (d q : List ℕ) (task : PlanningTask) (es : EndsOf spread.Zobrist) → SpellTask d q task → IsTranslation task p.translated
+      → HasSamePlans task p.translated → IsFoundFor p.translated.task zobrist_owner es (wants classes (then_some b (translation_kind task p.translated))) f
       → IsAnswerFor b d q task es given)
       → IsPlanningAnswer wanted domain problem ends given
   answer_for ends f given found texts =
@@ -114,7 +108,7 @@ module _ (wanted : Bool) (domain problem : List ℕ) (p : Prepared) (is : IsPrep
         translation = is.translation;
         at = is_found.at;
         ended = is_found.ended;
-        is = texts wanted domain problem is.task is_found.at is.spelled is.translation is.same is_found.task_is is_found.found;
+        is = texts wanted is_found.classes domain problem is.task is_found.at is.spelled is.translation is.same is_found.found;
       }
 
   pub search_refused : (why : FiniteDomainTask → SearchFault → Type 0) (e : SearchFault) → why over e → IsPlanningRefusal domain problem why (fault_of_search e)

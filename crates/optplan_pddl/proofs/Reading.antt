@@ -4,7 +4,7 @@ use Rattle.fdr.specs.Tasks.{FiniteDomainTask}
 use Rattle.pddl.specs.Texts.{IsTaskRefusal}
 use Rattle.pddl.specs.declared.fault.PddlFault.{PddlFault}
 use Rattle.pddl.specs.declared.fault.PddlFault.TheVariants.{OutOfMemory, Tree, Section}
-use Rattle.optplan_sas.specs.declared.fault.SearchFault.{SearchFault}
+use Rattle.optplan_search.specs.declared.fault.SearchFault.{SearchFault}
 use Rattle.optplan_pddl.specs.Answers.{IsPlanningRefusal}
 use Rattle.optplan_pddl.specs.Faults.{fault_of_reading}
 

@@ -17,16 +17,16 @@ use Rattle.validate.specs.Steps.{Step}
 use Rattle.optplan_plans.specs.Plans.{step_of, text_of_plan}
 use Rattle.packed_spread.specs.Spreads as spread
 use Rattle.packed_spread.specs.Spreads.{zobrist_owner}
-use Rattle.optplan_sas.specs.SearchEnds.{EndsOf, least_best_of}
-use Rattle.optplan_sas.specs.Findings.{IsSettledEnd, IsShortEnd}
+use Rattle.optplan_search.specs.SearchEnds.{EndsOf, least_best_of}
+use Rattle.optplan_search.specs.Findings.{IsSettledEnd, IsShortEnd}
 use Rattle.optplan_sas.specs.SasAnswers.{IsBestWritten, IsTextIf}
 use Rattle.optplan_sas.specs.declared.answer.WrittenPlan.{WrittenPlan}
 use Rattle.optplan_sas.specs.declared.answer.CheapestPlan.{CheapestPlan}
 use Rattle.optplan_sas.specs.declared.answer.KnownSoFar.{KnownSoFar}
 use Rattle.optplan_sas.specs.declared.answer.Answer.{Answer}
 use Rattle.optplan_sas.specs.declared.answer.Answer.TheVariants.{Solved, Unsolvable, Limit}
-use Rattle.optplan_sas.specs.declared.fault.SearchFault.{SearchFault}
-use Rattle.optplan_sas.specs.declared.fault.SearchFault.TheVariants as search
+use Rattle.optplan_search.specs.declared.fault.SearchFault.{SearchFault}
+use Rattle.optplan_search.specs.declared.fault.SearchFault.TheVariants as search
 use Rattle.optplan_pddl.specs.declared.fault.PlanningFault.{PlanningFault}
 use Rattle.optplan_pddl.specs.declared.fault.PlanningFault.TheVariants.{OutOfMemory, Task, GroundLimit, TaskTooLarge, TotalTooLarge, Gate}
 

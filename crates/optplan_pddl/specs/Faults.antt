@@ -1,8 +1,8 @@
 -- Faults of reading and of a search as faults of the planner.
 use Rattle.pddl.specs.declared.fault.PddlFault.{PddlFault}
 use Rattle.pddl.specs.declared.fault.PddlFault.TheVariants as reading
-use Rattle.optplan_sas.specs.declared.fault.SearchFault.{SearchFault}
-use Rattle.optplan_sas.specs.declared.fault.SearchFault.TheVariants.{OutOfMemory, TotalTooLarge, Gate}
+use Rattle.optplan_search.specs.declared.fault.SearchFault.{SearchFault}
+use Rattle.optplan_search.specs.declared.fault.SearchFault.TheVariants.{OutOfMemory, TotalTooLarge, Gate}
 use Rattle.optplan_pddl.specs.declared.fault.PlanningFault.{PlanningFault}
 use Rattle.optplan_pddl.specs.declared.fault.PlanningFault.TheVariants as planning
 

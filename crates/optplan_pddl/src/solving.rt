@@ -8,12 +8,12 @@ ghost use Rattle.pddl.specs.Texts.{SpellTask};
 ghost use Rattle.translate.specs.Translated.{IsTranslation, HasSamePlans};
 ghost use Rattle.packed_spread.specs.Spreads as spread;
 ghost use Rattle.packed_spread.specs.Spreads.{zobrist_owner};
-ghost use Rattle.optplan_sas.specs.SearchEnds.{EndsOf};
+ghost use Rattle.optplan_search.specs.SearchEnds.{EndsOf};
 ghost use Rattle.optplan_kind.specs.Kinds.{translation_kind};
 ghost use Rattle.optplan_plans.specs.Steps.{HasStepNames};
-ghost use Rattle.optplan_sas.specs.Findings.{IsPlanAt, IsBestSoFar, IsSolution, IsSoFar, IsFound, IsTrueOf};
+ghost use Rattle.optplan_search.specs.Findings.{wants, IsPlanAt, IsBestSoFar, IsSolution, IsSoFar, IsFoundFor, IsTrueOf};
 ghost use Rattle.optplan_sas.specs.SasAnswers.{IsBestWritten};
-ghost use Rattle.optplan_sas.specs.Searches.{EndsAfter, IsRefusedAfter, EndsBySeed, IsRefusedBySeed, EndsByThreads, IsRefusedByThreads};
+ghost use Rattle.optplan_search.specs.Searches.{EndsAfter, IsRefusedAfter, EndsBySeed, IsRefusedBySeed, EndsByThreads, IsRefusedByThreads};
 ghost use Rattle.optplan_pddl.specs.Answers.{IsPlanningPlan, IsPlanningSolution, IsPlanningKnown, IsAnswerFor, IsPlanningAnswer, IsPlanningRefusal};
 
 use crate::fault::PlanningFault;
@@ -80,10 +80,12 @@ fn solution_texts(
     translated: &Translated,
     solution: Solution,
 ) -> Result<CheapestPlan<Vec<Step>>, AllocError>
-    requires solution { (wanted : Bool) × ((task : PlanningTask) × IsSolution translated.now.task (then_some wanted (translation_kind task translated.now)) solution) }
+    requires solution { (wanted : Bool) × ((task : PlanningTask) × ((classes : List (List ℕ)) ×
+        IsSolution translated.now.task (wants classes (then_some wanted (translation_kind task translated.now))) solution)) }
     requires names { HasStepNames translated.now.task }
-    ensures solution { (wanted : Bool) (domain problem : List ℕ) (task : PlanningTask) → SpellTask domain problem task → IsTranslation task translated.now →
-        HasSamePlans task translated.now → IsSolution translated.now.task (then_some wanted (translation_kind task translated.now)) solution →
+    ensures solution { (wanted : Bool) (classes : List (List ℕ)) (domain problem : List ℕ) (task : PlanningTask) → SpellTask domain problem task →
+        IsTranslation task translated.now → HasSamePlans task translated.now →
+        IsSolution translated.now.task (wants classes (then_some wanted (translation_kind task translated.now))) solution →
         IfOk result (IsPlanningSolution wanted domain problem task) }
     ensures cost { IfOk result (λ s. s.found.cost ≡ solution.found.cost) }
 {
@@ -99,11 +101,12 @@ fn known_texts(
     translated: &Translated,
     known: SoFar,
 ) -> Result<KnownSoFar<Vec<Step>>, AllocError>
-    requires known { (wanted : Bool) × ((task : PlanningTask) × ((most : Distance) × IsSoFar translated.now.task (then_some wanted (translation_kind task translated.now)) most known)) }
+    requires known { (wanted : Bool) × ((task : PlanningTask) × ((classes : List (List ℕ)) × ((most : Distance) ×
+        IsSoFar translated.now.task (wants classes (then_some wanted (translation_kind task translated.now))) most known))) }
     requires names { HasStepNames translated.now.task }
-    ensures known { (wanted : Bool) (domain problem : List ℕ) (task : PlanningTask) (most : Distance) → SpellTask domain problem task →
+    ensures known { (wanted : Bool) (classes : List (List ℕ)) (domain problem : List ℕ) (task : PlanningTask) (most : Distance) → SpellTask domain problem task →
         IsTranslation task translated.now → HasSamePlans task translated.now →
-        IsSoFar translated.now.task (then_some wanted (translation_kind task translated.now)) most known → IfOk result (IsPlanningKnown wanted domain problem task most) }
+        IsSoFar translated.now.task (wants classes (then_some wanted (translation_kind task translated.now))) most known → IfOk result (IsPlanningKnown wanted domain problem task most) }
     ensures bound { IfOk result (λ k. k.bound ≡ known.bound) }
 {
     let cert = certificate_text(alloc, &known.certificate)?;
@@ -123,9 +126,9 @@ fn answer_texts(
 ) -> Result<PlanningAnswer, AllocError>
     requires found { (wanted : Bool) × ((task : PlanningTask) × IsTrueOf translated.now.task (then_some wanted (translation_kind task translated.now)) found) }
     requires names { HasStepNames translated.now.task }
-    ensures { (wanted : Bool) (domain problem : List ℕ) (task : PlanningTask) (es : EndsOf spread.Zobrist) → SpellTask domain problem task →
-        IsTranslation task translated.now → HasSamePlans task translated.now → es.last.space.task ≡ translated.now.task →
-        IsFound zobrist_owner es (then_some wanted (translation_kind task translated.now)) found → IfOk result (IsAnswerFor wanted domain problem task es) }
+    ensures { (wanted : Bool) (classes : List (List ℕ)) (domain problem : List ℕ) (task : PlanningTask) (es : EndsOf spread.Zobrist) →
+        SpellTask domain problem task → IsTranslation task translated.now → HasSamePlans task translated.now →
+        IsFoundFor translated.now.task zobrist_owner es (wants classes (then_some wanted (translation_kind task translated.now))) found → IfOk result (IsAnswerFor wanted domain problem task es) }
 {
     match found {
         Found::Solved(solution) => Ok(Answer::Solved(solution_texts(alloc, translated, solution)?)),

@@ -10,13 +10,13 @@ use Rattle.cert_value.specs.declared.certificate.CertificateKind.TheVariants as 
 use Rattle.sasfile.specs.SasTexts.{SpellsTask}
 use Rattle.packed_spread.specs.Spreads as spread
 use Rattle.packed_spread.specs.Spreads.{zobrist_owner}
-use Rattle.optplan_sas.specs.SearchEnds.{EndsOf}
-use Rattle.optplan_sas.specs.Findings.{IsFound, IsFinding, IsTrueOf}
+use Rattle.optplan_search.specs.SearchEnds.{EndsOf}
+use Rattle.optplan_search.specs.Findings.{wants, IsFoundFor, IsFinding, IsTrueOf}
 use Rattle.optplan_sas.specs.SasAnswers.{SasAnswer, IsSasAnswerFor, IsSasAnswer, IsSasRefusal}
 use Rattle.optplan_sas.specs.Faults.{fault_of_search}
-use Rattle.optplan_sas.specs.declared.found.Found.{Found}
-use Rattle.optplan_sas.specs.declared.fault.SearchFault.{SearchFault}
-use Rattle.optplan_sas.specs.declared.fault.SearchFault.TheVariants as search
+use Rattle.optplan_search.specs.declared.found.Found.{Found}
+use Rattle.optplan_search.specs.declared.fault.SearchFault.{SearchFault}
+use Rattle.optplan_search.specs.declared.fault.SearchFault.TheVariants as search
 use Rattle.optplan_sas.specs.declared.fault.SasSolveFault.{SasSolveFault}
 use Rattle.optplan_sas.specs.declared.fault.SasSolveFault.TheVariants as solve
 
@@ -33,20 +33,21 @@ module _ (wanted certificate : Bool) (kind : Option CertificateKind) (kind_is : 
   pub found_true : (task : FiniteDomainTask) (ends : EndsOf spread.Zobrist → Type 0) (f : Found) → IsFinding task (option_map kind_of kind) ends f
       → (b : Bool) × IsTrueOf task (then_some b FiniteDomain) f
   found_true task ends f found =
-      (wanted, (found.at, found.task_is, subst (λ (k : Option Kind). IsFound zobrist_owner found.at k f) kind_same found.found))
+      (wanted, (found.at, (found.classes, subst (λ (k : Option Kind). IsFoundFor task zobrist_owner found.at (wants found.classes k) f) kind_same found.found)))
 
   -- the texts of what was found are the answer
   pub answered : (sas : List ℕ) (task : FiniteDomainTask) (ends : FiniteDomainTask → EndsOf spread.Zobrist → Type 0) (f : Found) (answer : SasAnswer)
       → SpellsTask sas task → IsFinding task (option_map kind_of kind) (ends task) f
-      → ((b : Bool) (text : List ℕ) (es : EndsOf spread.Zobrist) → SpellsTask text task → es.last.space.task ≡ task → IsFound zobrist_owner es (then_some b FiniteDomain) f
-      → IsSasAnswerFor b text task es answer)
+      → ((b : Bool) (classes : List (List ℕ)) (text : List ℕ) (es : EndsOf spread.Zobrist) → SpellsTask text task
+      → IsFoundFor task zobrist_owner es (wants classes (then_some b FiniteDomain)) f → IsSasAnswerFor b text task es answer)
       → IsSasAnswer wanted sas ends answer
   answered sas task ends f answer spells found texts = record {
     task = task;
     spelled = spells;
     at = found.at;
     ended = found.ended;
-    is = texts wanted sas found.at spells found.task_is (subst (λ (k : Option Kind). IsFound zobrist_owner found.at k f) kind_same found.found);
+    is = texts wanted found.classes sas found.at spells
+        (subst (λ (k : Option Kind). IsFoundFor task zobrist_owner found.at (wants found.classes k) f) kind_same found.found);
   }
 
 -- a refused search is a refusal of what asked for it

@@ -1,11 +1,3 @@
-pub mod Schedules
-pub mod PlanTexts
 pub mod Spelled
 pub mod Texts
-pub mod Ends
-pub mod WorldEnds
-pub mod StageEnds
-pub mod ThreadEnds
-pub mod KnownByStages
-pub mod KindCopies
 pub mod Answering

@@ -10,10 +10,10 @@ use Rattle.cost.specs.Distances.{Distance}
 use Rattle.fdr.specs.Tasks.{FiniteDomainTask}
 use Rattle.sasfile.specs.SasTexts.{SpellsTask}
 use Rattle.checker.specs.Answers.{is_for_finite_domain}
-use Rattle.optplan_sas.specs.Findings.{IsCertificateOf, IsCertifiedBy}
+use Rattle.optplan_search.specs.Findings.{wanted_with, wants, IsCertificateOf, IsCertifiedBy}
 use Rattle.optplan_sas.specs.SasAnswers.{IsAccepted, IsTextIf, IsAcceptedIf}
 use Rattle.cert_value.specs.Certificates.{Kind, FiniteDomain, CertificateValue}
-use Rattle.cert_text.specs.Spelling.{spelling, text_of, line_text, lines, kind_lines, columns_lines, closed_lines, entry_line}
+use Rattle.cert_text.specs.Spelling.{spelling, text_of, line_text, lines, kind_lines, classes_lines, columns_lines, closed_lines, entry_line}
 
 line_has_byte : (words : List (List ℕ)) → 1 ≤ length (line_text words)
 line_has_byte words = let e = length-append (Rattle.cert_text.specs.Pieces.joined 32 words) (10 ∷ []) in omega (arith, e)
@@ -26,14 +26,15 @@ as_long_as_lines (l ∷ ls) = let e = length-append (line_text l) (text_of ls) i
 pub few_entries : (c : CertificateValue) → length (spelling c) ≤ 2 ^ 30 → length c.closed < 2 ^ 32
 few_entries c le =
     let all = as_long_as_lines (lines c) in
-    let a = length-append (kind_lines c.kind ++ columns_lines c.columns ++ closed_lines c.closed) ((codes "end" ∷ []) ∷ []) in
-    let b = length-append (kind_lines c.kind ++ columns_lines c.columns) (closed_lines c.closed) in
+    let a = length-append (kind_lines c.kind ++ classes_lines c.classes ++ columns_lines c.columns ++ closed_lines c.closed) ((codes "end" ∷ []) ∷ []) in
+    let b = length-append (kind_lines c.kind ++ classes_lines c.classes ++ columns_lines c.columns) (closed_lines c.closed) in
     let e = length-map c.closed entry_line in
     omega (arith, all, a, b, e, le)
 
 -- the checker accepts the text of a certificate that holds, and its bound
-pub accepted : (sas : List ℕ) (task : FiniteDomainTask) (bound : Distance) (c : CertificateValue) (text : List ℕ) → SpellsTask sas task → IsCertificateOf task FiniteDomain bound c → text ≡ spelling c → IsAccepted sas text bound
-accepted sas task bound c text spells of is =
+pub accepted : (sas : List ℕ) (task : FiniteDomainTask) (classes : List (List ℕ)) (bound : Distance) (c : CertificateValue) (text : List ℕ) → SpellsTask sas task
+    → IsCertificateOf task (wanted_with classes FiniteDomain) bound c → text ≡ spelling c → IsAccepted sas text bound
+accepted sas task classes bound c text spells of is =
     λ short.
     record {
       task = task;
@@ -51,19 +52,19 @@ accepted sas task bound c text spells of is =
 
 -- the text of the certificate that is wanted, if one is, where the text of each such certificate is accepted in some
 -- sense
-pub text_if : (wanted : Bool) (kind : Kind) (task : FiniteDomainTask) (bound : Distance) (accepts : List ℕ → Type 0) (c : Option CertificateValue) (text : Option (Vec ℕ Global))
-    → ((made : CertificateValue) (bytes : List ℕ) → IsCertificateOf task kind bound made → bytes ≡ spelling made → accepts bytes)
-    → IsCertifiedBy task (then_some wanted kind) bound c → option_map (λ t. t.items) text ≡ option_map spelling c → IsTextIf wanted accepts text
-text_if false kind task bound accepts c None each of is = refl
-text_if false kind task bound accepts None (Some text) each of is = absurd cc
-text_if false kind task bound accepts (Some made) (Some text) each of is = let none : Some made ≡ None = of in absurd cc
-text_if true kind task bound accepts None text each of is = absurd of
-text_if true kind task bound accepts (Some made) None each of is = absurd cc
-text_if true kind task bound accepts (Some made) (Some text) each of is =
+pub text_if : (wanted : Bool) (classes : List (List ℕ)) (kind : Kind) (task : FiniteDomainTask) (bound : Distance) (accepts : List ℕ → Type 0) (c : Option CertificateValue) (text : Option (Vec ℕ Global))
+    → ((made : CertificateValue) (bytes : List ℕ) → IsCertificateOf task (wanted_with classes kind) bound made → bytes ≡ spelling made → accepts bytes)
+    → IsCertifiedBy task (wants classes (then_some wanted kind)) bound c → option_map (λ t. t.items) text ≡ option_map spelling c → IsTextIf wanted accepts text
+text_if false classes kind task bound accepts c None each of is = refl
+text_if false classes kind task bound accepts None (Some text) each of is = absurd cc
+text_if false classes kind task bound accepts (Some made) (Some text) each of is = let none : Some made ≡ None = of in absurd cc
+text_if true classes kind task bound accepts None text each of is = absurd of
+text_if true classes kind task bound accepts (Some made) None each of is = absurd cc
+text_if true classes kind task bound accepts (Some made) (Some text) each of is =
     each made text.items of (subst (λ (o : Option (List ℕ)). IsSomeAnd o (λ bytes. bytes ≡ spelling made)) (sym is) refl)
 
 -- the text of the certificate that is wanted, if one is, is accepted
-pub accepted_if : (wanted : Bool) (sas : List ℕ) (task : FiniteDomainTask) (bound : Distance) (c : Option CertificateValue) (text : Option (Vec ℕ Global)) → SpellsTask sas task
-    → IsCertifiedBy task (then_some wanted FiniteDomain) bound c → option_map (λ t. t.items) text ≡ option_map spelling c → IsAcceptedIf wanted sas text bound
-accepted_if wanted sas task bound c text spells of is =
-    text_if wanted FiniteDomain task bound (λ bytes. IsAccepted sas bytes bound) c text (λ made bytes. accepted sas task bound made bytes spells) of is
+pub accepted_if : (wanted : Bool) (classes : List (List ℕ)) (sas : List ℕ) (task : FiniteDomainTask) (bound : Distance) (c : Option CertificateValue) (text : Option (Vec ℕ Global)) → SpellsTask sas task
+    → IsCertifiedBy task (wants classes (then_some wanted FiniteDomain)) bound c → option_map (λ t. t.items) text ≡ option_map spelling c → IsAcceptedIf wanted sas text bound
+accepted_if wanted classes sas task bound c text spells of is =
+    text_if wanted classes FiniteDomain task bound (λ bytes. IsAccepted sas bytes bound) c text (λ made bytes. accepted sas task classes bound made bytes spells) of is

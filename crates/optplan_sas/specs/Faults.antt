@@ -1,6 +1,6 @@
 -- Faults of a search as faults of the solver.
-use Rattle.optplan_sas.specs.declared.fault.SearchFault.{SearchFault}
-use Rattle.optplan_sas.specs.declared.fault.SearchFault.TheVariants.{OutOfMemory, TotalTooLarge, Gate}
+use Rattle.optplan_search.specs.declared.fault.SearchFault.{SearchFault}
+use Rattle.optplan_search.specs.declared.fault.SearchFault.TheVariants.{OutOfMemory, TotalTooLarge, Gate}
 use Rattle.optplan_sas.specs.declared.fault.SasSolveFault.{SasSolveFault}
 use Rattle.optplan_sas.specs.declared.fault.SasSolveFault.TheVariants as solve
 

@@ -1,7 +1,2 @@
 pub mod Faults
-pub mod SearchEnds
-pub mod Searches
-pub mod Findings
-pub mod Stages
-pub mod Schedules
 pub mod SasAnswers

@@ -12,10 +12,10 @@ use Rattle.checker.specs.Answers.{IsAnswer}
 use Rattle.checker.specs.declared.verdict.Verdict.TheVariants.{Accepted}
 use Rattle.packed_spread.specs.Spreads as spread
 use Rattle.packed_spread.specs.Spreads.{zobrist_owner}
-use Rattle.optplan_sas.specs.SearchEnds.{EndsOf, least_best_of}
-use Rattle.optplan_sas.specs.Findings.{IsPlanAt, IsSettledEnd, IsShortEnd}
-use Rattle.optplan_sas.specs.declared.fault.SearchFault.{SearchFault}
-use Rattle.optplan_sas.specs.declared.fault.SearchFault.TheVariants as search
+use Rattle.optplan_search.specs.SearchEnds.{EndsOf, least_best_of}
+use Rattle.optplan_search.specs.Findings.{IsPlanAt, IsSettledEnd, IsShortEnd}
+use Rattle.optplan_search.specs.declared.fault.SearchFault.{SearchFault}
+use Rattle.optplan_search.specs.declared.fault.SearchFault.TheVariants as search
 use Rattle.optplan_sas.specs.declared.fault.SasSolveFault.{SasSolveFault}
 use Rattle.optplan_sas.specs.declared.fault.SasSolveFault.TheVariants.{OutOfMemory, Sas, TotalTooLarge, Gate}
 use Rattle.optplan_sas.specs.declared.answer.WrittenPlan.{WrittenPlan}

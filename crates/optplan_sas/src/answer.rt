@@ -4,8 +4,8 @@ ghost use Rattle.std.specs.Prelude.{◌≡◌, IfOk};
 ghost use Rattle.std.specs.Option.{option_map};
 ghost use Rattle.cert_text.specs.Spelling.{spelling};
 
-use cert_text::write_cert;
 use cert_value::Certificate;
+use cert_writer::write_cert;
 use std::alloc::{AllocError, Global};
 
 /// A plan with its cost and its text; `P` is the form of the plan itself.

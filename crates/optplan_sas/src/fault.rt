@@ -1,24 +1,12 @@
-//! Reasons why a search or a solver has no answer.
+//! Reasons why a solver has no answer.
 
 ghost use Rattle.std.specs.Prelude.{◌≡◌};
-ghost use Rattle.optplan_sas.specs.declared.fault.SearchFault.TheVariants as search;
 ghost use Rattle.optplan_sas.specs.declared.fault.SasSolveFault.TheVariants as solve;
 ghost use Rattle.optplan_sas.specs.Faults.{fault_of_search};
 
+use optplan_search::SearchFault;
 use sasfile::SasFault;
 use std::alloc::AllocError;
-
-/// The reason why a search has no finding.
-#[derive(Clone, Copy, Debug, PartialEq, Eq)]
-pub enum SearchFault {
-    /// Allocation failed. This says nothing about the task.
-    OutOfMemory,
-    /// A path would have a cost, or a number of operators, above 2^62.
-    TotalTooLarge,
-    /// The gate of a multi-threaded search made it fail before a turn: the worker's number, and the turn's, counted
-    /// from 1 in its round.
-    Gate(usize, u64),
-}
 
 /// The reason why a finite-domain task is not solved.
 #[derive(Clone, Copy, Debug, PartialEq, Eq)]
@@ -32,14 +20,6 @@ pub enum SasSolveFault {
     /// The gate of a multi-threaded search made it fail before a turn: the worker's number, and the turn's, counted
     /// from 1 in its round.
     Gate(usize, u64),
-}
-
-impl From<AllocError> for SearchFault {
-    ghost from_gives = { λ _ e. e ≡ search.OutOfMemory };
-
-    fn from(_e: AllocError) -> SearchFault {
-        SearchFault::OutOfMemory
-    }
 }
 
 impl From<AllocError> for SasSolveFault {

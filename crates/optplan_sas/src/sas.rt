@@ -7,22 +7,21 @@ ghost use Rattle.sasfile.specs.SasTexts.{SpellsTask};
 ghost use Rattle.cost.specs.Distances.{Distance};
 ghost use Rattle.packed_spread.specs.Spreads as spread;
 ghost use Rattle.packed_spread.specs.Spreads.{zobrist_owner};
-ghost use Rattle.optplan_sas.specs.SearchEnds.{EndsOf};
-ghost use Rattle.optplan_sas.specs.Findings.{IsPlanAt, IsBestSoFar, IsSolution, IsSoFar, IsFound, IsTrueOf};
-ghost use Rattle.optplan_sas.specs.Searches.{EndsAfter, IsRefusedAfter, EndsBySeed, IsRefusedBySeed, EndsByThreads, IsRefusedByThreads};
+ghost use Rattle.optplan_search.specs.SearchEnds.{EndsOf};
+ghost use Rattle.optplan_search.specs.Findings.{wants, IsPlanAt, IsBestSoFar, IsSolution, IsSoFar, IsFoundFor, IsTrueOf};
+ghost use Rattle.optplan_search.specs.Searches.{EndsAfter, IsRefusedAfter, EndsBySeed, IsRefusedBySeed, EndsByThreads, IsRefusedByThreads};
 ghost use Rattle.optplan_sas.specs.SasAnswers.{IsSasAnswer, IsSasAnswerFor, IsSasRefusal, IsSasPlan, IsSasSolution, IsSasKnown, IsBestWritten};
 
 use crate::answer::{Answer, CheapestPlan, KnownSoFar, WrittenPlan, certificate_text};
 use crate::fault::SasSolveFault;
-use crate::found::{Found, FoundPlan, SoFar, Solution};
-use crate::observer::Observer;
-use crate::searching::{found_after, found_by_seed};
-use crate::stages::found_by_threads;
 use cert_value::CertificateKind;
 use engine::Gate;
 use fdr::FdrTask;
 use netcore::WorldStep;
 use optplan_options::Options;
+use optplan_search::{
+    Found, FoundPlan, Observer, SoFar, Solution, found_after, found_by_seed, found_by_threads,
+};
 use sasfile::{SasFault, read_sas};
 use sasfile_writer::sas_plan_text;
 use std::alloc::{AllocError, Global};
@@ -84,9 +83,9 @@ fn solution_texts(
     task: &FdrTask,
     solution: Solution,
 ) -> Result<CheapestPlan<Vec<usize>>, AllocError>
-    requires { (wanted : Bool) × IsSolution task.now (then_some wanted FiniteDomain) solution }
-    ensures solution { (wanted : Bool) (sas : List ℕ) → SpellsTask sas task.now → IsSolution task.now (then_some wanted FiniteDomain) solution →
-        IfOk result (IsSasSolution wanted sas task.now) }
+    requires { (wanted : Bool) × ((classes : List (List ℕ)) × IsSolution task.now (wants classes (then_some wanted FiniteDomain)) solution) }
+    ensures solution { (wanted : Bool) (classes : List (List ℕ)) (sas : List ℕ) → SpellsTask sas task.now →
+        IsSolution task.now (wants classes (then_some wanted FiniteDomain)) solution → IfOk result (IsSasSolution wanted sas task.now) }
     ensures cost { IfOk result (λ s. s.found.cost ≡ solution.found.cost) }
 {
     let cert = certificate_text(alloc, &solution.certificate)?;
@@ -100,9 +99,9 @@ fn known_texts(
     task: &FdrTask,
     known: SoFar,
 ) -> Result<KnownSoFar<Vec<usize>>, AllocError>
-    requires { (wanted : Bool) × ((most : Distance) × IsSoFar task.now (then_some wanted FiniteDomain) most known) }
-    ensures known { (wanted : Bool) (sas : List ℕ) (most : Distance) → SpellsTask sas task.now → IsSoFar task.now (then_some wanted FiniteDomain) most known →
-        IfOk result (IsSasKnown wanted sas task.now most) }
+    requires { (wanted : Bool) × ((classes : List (List ℕ)) × ((most : Distance) × IsSoFar task.now (wants classes (then_some wanted FiniteDomain)) most known)) }
+    ensures known { (wanted : Bool) (classes : List (List ℕ)) (sas : List ℕ) (most : Distance) → SpellsTask sas task.now →
+        IsSoFar task.now (wants classes (then_some wanted FiniteDomain)) most known → IfOk result (IsSasKnown wanted sas task.now most) }
     ensures bound { IfOk result (λ k. k.bound ≡ known.bound) }
 {
     let cert = certificate_text(alloc, &known.certificate)?;
@@ -117,8 +116,8 @@ fn known_texts(
 /// Returns the answer with the texts of the finding of a search.
 fn answer_texts(alloc: Global, task: &FdrTask, found: Found) -> Result<SasAnswer, AllocError>
     requires { (wanted : Bool) × IsTrueOf task.now (then_some wanted FiniteDomain) found }
-    ensures { (wanted : Bool) (sas : List ℕ) (es : EndsOf spread.Zobrist) → SpellsTask sas task.now → es.last.space.task ≡ task.now →
-        IsFound zobrist_owner es (then_some wanted FiniteDomain) found → IfOk result (IsSasAnswerFor wanted sas task.now es) }
+    ensures { (wanted : Bool) (classes : List (List ℕ)) (sas : List ℕ) (es : EndsOf spread.Zobrist) → SpellsTask sas task.now →
+        IsFoundFor task.now zobrist_owner es (wants classes (then_some wanted FiniteDomain)) found → IfOk result (IsSasAnswerFor wanted sas task.now es) }
 {
     match found {
         Found::Solved(solution) => Ok(Answer::Solved(solution_texts(alloc, task, solution)?)),

@@ -126,6 +126,15 @@ impl<'a, R: Clock + Eprint + Sync> Gate for Watcher<'a, R> {
         Duration::from_secs(seconds).saturating_sub(elapsed) > took
     }
 
+    /// Prints a line if something is left out and progress is reported. A line that cannot be printed is skipped.
+    fn task_reduced(&self, variables: usize, operators: usize) {
+        if self.tally.is_some() && (variables > 0 || operators > 0) {
+            let _ = eprintln!(self.rt;
+                "optplan: left out {variables} variables, {operators} operators"
+            );
+        }
+    }
+
     /// Prints a line for each stage after the first, if progress is reported. A line that cannot be printed is skipped.
     fn stage_begins(&self, stage: usize, tables: usize, abstract_states: usize) {
         if self.tally.is_some() && stage > 1 {

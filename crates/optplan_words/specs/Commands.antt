@@ -25,10 +25,11 @@ option_or name value = record (option name) { defaults = value ∷ [] }
 abbrev pub flag : Text → Rule
 flag name = record (new_rule name) { long = Some name; action = Some SetTrue }
 
+abbrev pub schedule_options : List Rule
+schedule_options = option (codes "simulate") ∷ option_or (codes "workers") (codes "4") ∷ option_or (codes "ring") (codes "64") ∷ []
+
 abbrev pub search_options : List Rule
-search_options =
-    option (codes "simulate") ∷ option_or (codes "workers") (codes "4") ∷ option_or (codes "ring") (codes "64")
-    ∷ option (codes "tables") ∷ option (codes "table") ∷ option (codes "ties") ∷ []
+search_options = option (codes "tables") ∷ option (codes "table") ∷ option (codes "ties") ∷ option (codes "reduce") ∷ []
 
 abbrev pub ending_options : List Rule
 ending_options = option (codes "limit") ∷ option (codes "time") ∷ option (codes "memory") ∷ option_or (codes "steps") (codes "1000000") ∷ []
@@ -38,7 +39,7 @@ output_options = flag (codes "progress") ∷ option (codes "plan") ∷ option (c
 
 -- the options of the commands that solve a task
 abbrev pub options : List Rule
-options = search_options ++ ending_options ++ output_options
+options = schedule_options ++ search_options ++ ending_options ++ output_options
 
 -- ---- commands
 

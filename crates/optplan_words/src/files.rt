@@ -34,10 +34,10 @@ effects) and a certificate for it, and prints one line:
 
   accepted N                  every plan costs at least N (status 0)
   accepted unsolvable         there is no plan (status 0)
-  rejected CLAUSE PLACE       the certificate fails in this clause, C3 to C8, at this place (status 3)
+  rejected CLAUSE PLACE       the certificate fails in this clause, C0 or C3 to C8, at this place (status 3)
 
-Columns, tables, states and operators count from 0. A text that cannot be read is refused with one line on standard
-error (status 1).";
+Variables, columns, tables, states and operators count from 0. A text that cannot be read is refused with one line on
+standard error (status 1).";
 
 const CHECK_ABOUT: &str =
     "Checks that a certificate proves its bound on the cost of every valid plan";
@@ -50,7 +50,7 @@ for them, and prints one line:
 
   accepted N                  every valid plan costs at least N (status 0)
   accepted unsolvable         there is no valid plan (status 0)
-  rejected CLAUSE PLACE       the certificate fails in this clause, C1 to C8, at this place (status 3)
+  rejected CLAUSE PLACE       the certificate fails in this clause, C0 to C8, at this place (status 3)
 
 Variables, columns, tables, states and operators count from 0. A text that cannot be read is refused with one line on
 standard error (status 1).";
@@ -67,7 +67,7 @@ Reads a domain and a problem in PDDL 2.1 level 1 with types, negative preconditi
   optimal N                   the plan is valid and costs N, and every valid plan costs at least N (status 0)
   valid N, at least B         the plan is valid and costs N, and every valid plan costs at least B, which is less (status 3)
   valid N, rejected CLAUSE PLACE
-                              the plan is valid and costs N, and the certificate fails in this clause, C1 to C8, at this
+                              the plan is valid and costs N, and the certificate fails in this clause, C0 to C8, at this
                               place (status 3)
 
 A plan that is not valid has the line that validate prints (status 3), and the certificate is not judged. A plan file that
@@ -75,7 +75,7 @@ consists of the line unsolvable claims that there is no valid plan. Then the lin
 
   unsolvable                  there is no valid plan (status 4)
   at least B                  every valid plan costs at least B (status 3)
-  rejected CLAUSE PLACE       the certificate fails in this clause, C1 to C8, at this place (status 3)
+  rejected CLAUSE PLACE       the certificate fails in this clause, C0 to C8, at this place (status 3)
 
 A text that cannot be read is refused with one line on standard error (status 1).";
 
@@ -89,14 +89,14 @@ Reads a domain and a problem in PDDL 2.1 level 1 with types, negative preconditi
 task as output.sas, version 3, as Fast Downward's search reads it (status 0). A text that cannot be read is refused with
 one line on standard error (status 1).";
 
-const MIGRATE_CERT_ABOUT: &str = "Converts a certificate to version 2";
+const MIGRATE_CERT_ABOUT: &str = "Converts a certificate of version 1 to version 2";
 
 const MIGRATE_CERT_LONG: &str =
-    "Converts a certificate to version 2, in which a table may be that of a domain abstraction.
+    "Converts a certificate of version 1 to version 2, in which a table may be that of a domain abstraction.
 
-Reads a certificate of version 1 or 2, and prints the same certificate as version 2 (status 0): only the first line differs,
-and the verdict of check and check-sas is the same. A text that cannot be read is refused with one line on standard
-error (status 1).";
+Reads a certificate, and prints the same certificate, one of version 1 as version 2 (status 0): only the first line differs,
+and the verdict of check and check-sas is the same. Certificates of versions 2 and 3 stay as they are. A text that cannot be
+read is refused with one line on standard error (status 1).";
 
 /// Returns the command `validate`.
 pub(crate) fn validate_command<'a>(alloc: Global) -> Result<Command<'a>, AllocError>

@@ -34,6 +34,10 @@ Threads search in stages (--tables staged): first with small tables, which take 
 if that search goes on for long; the last search has no end. With --tables goal there is one search, with tables of at most
 --table abstract states that grow from the variables of the goal. --limit counts within each search.
 
+Before they search, threads leave out what no goal needs (--reduce on): values that no goal and no action on the way to one
+asks for, variables whose values then make no difference, and actions that change nothing or cost more than another with the
+same effects. Plans, costs and certificates are those of the whole task. With --reduce off the whole task is searched.
+
 Among open states of the least f-value (the cost to reach the state plus its heuristic value), --ties deep expands one with
 the greatest cost to reach it, --ties shallow one with the least, and --ties fresh one that was never expanded, as deep
 does, and only then those that have been reached more cheaply since they were expanded. fresh is the default of threads: if
@@ -71,6 +75,10 @@ of an open state, and the least cost of a plan so far.
 Threads search in stages (--tables staged): first with small tables, which take little time, then again with larger ones
 if that search goes on for long; the last search has no end. With --tables goal there is one search, with tables of at most
 --table abstract states that grow from the variables of the goal. --limit counts within each search.
+
+Before they search, threads leave out what no goal needs (--reduce on): values that no goal and no action on the way to one
+asks for, variables whose values then make no difference, and actions that change nothing or cost more than another with the
+same effects. Plans, costs and certificates are those of the whole task. With --reduce off the whole task is searched.
 
 Among open states of the least f-value (the cost to reach the state plus its heuristic value), --ties deep expands one with
 the greatest cost to reach it, --ties shallow one with the least, and --ties fresh one that was never expanded, as deep
@@ -111,9 +119,9 @@ fn with_ending_options<'a>(alloc: Global, command: Command<'a>) -> Result<Comman
     with_arg(command, steps)
 }
 
-/// Adds the options of the search: its schedule, workers, links, tables and tie-breaking.
-fn with_search_options<'a>(alloc: Global, command: Command<'a>) -> Result<Command<'a>, AllocError>
-    ensures { IfOk result (AddsRules command.entry spec.search_options) }
+/// Adds the options of who searches: the schedule, the workers and their links.
+fn with_schedule_options<'a>(alloc: Global, command: Command<'a>) -> Result<Command<'a>, AllocError>
+    ensures { IfOk result (AddsRules command.entry spec.schedule_options) }
 {
     let simulate = option(
         alloc,
@@ -135,6 +143,15 @@ fn with_search_options<'a>(alloc: Global, command: Command<'a>) -> Result<Comman
         "64",
         "Capacity of the ring of messages from one worker to another, 1 to 65536; without effect with --simulate",
     );
+    let command = with_arg(command, simulate)?;
+    let command = with_arg(command, workers)?;
+    with_arg(command, ring)
+}
+
+/// Adds the options of what is searched, and how: tables, tie-breaking and the reduction.
+fn with_search_options<'a>(alloc: Global, command: Command<'a>) -> Result<Command<'a>, AllocError>
+    ensures { IfOk result (AddsRules command.entry spec.search_options) }
+{
     let tables = option(
         alloc,
         "tables",
@@ -153,12 +170,16 @@ fn with_search_options<'a>(alloc: Global, command: Command<'a>) -> Result<Comman
         "ORDER",
         "Tie-breaking among states of equal f-value: fresh (the default), shallow (the default with --simulate) or deep",
     );
-    let command = with_arg(command, simulate)?;
-    let command = with_arg(command, workers)?;
-    let command = with_arg(command, ring)?;
+    let reduce = option(
+        alloc,
+        "reduce",
+        "CHOICE",
+        "Leaves out what no goal needs: on (the default) or off (the default with --simulate)",
+    );
     let command = with_arg(command, tables)?;
     let command = with_arg(command, table)?;
-    with_arg(command, ties)
+    let command = with_arg(command, ties)?;
+    with_arg(command, reduce)
 }
 
 /// Adds the options for output besides the answer.
@@ -191,6 +212,7 @@ fn with_output_options<'a>(alloc: Global, command: Command<'a>) -> Result<Comman
 fn with_options<'a>(alloc: Global, command: Command<'a>) -> Result<Command<'a>, AllocError>
     ensures { IfOk result (AddsRules command.entry spec.options) }
 {
+    let command = with_schedule_options(alloc, command)?;
     let command = with_search_options(alloc, command)?;
     let command = with_ending_options(alloc, command)?;
     with_output_options(alloc, command)

@@ -14,7 +14,7 @@ use Rattle.closed.specs.Tables.{message_of, outcome_from}
 use Rattle.owner_space.specs.Spaces.{searched}
 use Rattle.owner.specs.declared.batch.Batch.{Batch}
 use Rattle.owner.specs.Owned.{OwnerOf, space_of, under, IsMessageTo}
-use Rattle.owner.specs.Queues.{h_of}
+use Rattle.owner_reached.specs.Queues.{h_of}
 use Rattle.owner.specs.Successors.{AreKnown}
 use Rattle.owner.specs.Batches.{pending, IsBatch, ArePosted}
 use Rattle.owner_outboxes.proofs.Withdrawing.{withdrawn_posted}

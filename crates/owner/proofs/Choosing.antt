@@ -11,8 +11,9 @@ use Rattle.owner_theory.specs.Worlds.{no_open}
 use Rattle.openlist.specs.declared.entry.OpenEntry.{OpenEntry}
 use Rattle.closed.specs.Tables.{was_expanded}
 use Rattle.owner_space.specs.declared.ties.Ties.{Ties}
-use Rattle.owner.specs.Queues.{IsLeast, HasNoneOpen}
-use Rattle.owner.specs.Owned.{IsNext, least_open, ties_first}
+use Rattle.owner_reached.specs.Queues.{IsLeast, HasNoneOpen}
+use Rattle.owner_reached.specs.TieOrders.{ties_first}
+use Rattle.owner.specs.Owned.{IsNext, least_open}
 
 -- ---- every node passes, or one fails
 

@@ -10,7 +10,7 @@ use Rattle.fdr.specs.Tasks.{FiniteDomainTask, ranges, IsState, applies_at, cost_
 use Rattle.fdr_successors.specs.Applicable.{applicable_operators}
 use Rattle.owner_theory.specs.Owners.{At, Node, marked, mark_node, treat_all, successor_by, successors, expanded_at}
 use Rattle.owner_theory.specs.Worlds.{waiting}
-use Rattle.owner_theory.proofs.Lists.{in_range}
+use Rattle.owner_theory.proofs.Lists.{in_range, at_below}
 use Rattle.owner_theory.proofs.States.{step_there}
 use Rattle.owner_theory.proofs.Successors.{successors_by_applicable}
 use Rattle.openlist.specs.declared.entry.Rank.{Rank}
@@ -19,11 +19,10 @@ use Rattle.closed.specs.Tables.{padded, fresh}
 use Rattle.owner.specs.declared.fault.OwnerFault.{OwnerFault}
 use Rattle.owner.specs.declared.fault.OwnerFault.TheVariants.{OutOfMemory}
 use Rattle.owner.specs.Owned.{OwnerOf, space_of, under, max_total, HasSmallSuccessors, HasLargeSuccessor, Expands, IsRefusal}
-use Rattle.owner.specs.Queues.{IsLeast, h_of}
+use Rattle.owner_reached.specs.Queues.{IsLeast, h_of}
 use Rattle.owner_space.specs.Steps.{IsSmallStep}
 use Rattle.owner_space.specs.Late.{is_late, all_are_late}
 use Rattle.owner.specs.Held.{IsOwner}
-use Rattle.owner.proofs.Outcomes.{at_below}
 use Rattle.owner.proofs.Choosing.{is_next, may_be_expanded}
 use Rattle.owner.proofs.LateSuccessors.{late_dropped, late_by, late_small, late_treated}
 use Rattle.scp.proofs.Applying.{applied_step}

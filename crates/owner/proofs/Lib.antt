@@ -1,14 +1,9 @@
 pub mod Passing
-pub mod Entries
-pub mod TieLaws
-pub mod Outcomes
-pub mod Queues
-pub mod Adding
-pub mod Currents
 pub mod Results
 pub mod Choosing
 pub mod Owning
 pub mod Stepping
 pub mod Batching
+pub mod Hinting
 pub mod LateSuccessors
 pub mod Expanding

@@ -22,11 +22,11 @@ use Rattle.closed.specs.Tables.{padded, reached, outcome_of, fresh, message_of, 
 use Rattle.owner_space.specs.declared.ties.Ties.{Ties}
 use Rattle.owner_space.specs.Spaces.{SpaceOf, searched}
 use Rattle.owner.specs.Owned.{OwnerOf, space_of, under, IsMessageTo, IsKept}
-use Rattle.owner.specs.Queues.{ReachedOf, message_at, h_of, IsLeast}
-use Rattle.owner.specs.Held.{IsOwner}
+use Rattle.owner_reached.specs.Queues.{ReachedOf, h_of, IsLeast}
+use Rattle.owner.specs.Held.{IsOwner, message_at}
 use Rattle.owner.specs.Outboxes.{shown, withdrawn}
 use Rattle.closed.proofs.Reached.{outcome_of-Kept}
-use Rattle.owner.proofs.Outcomes.{reached_improves, kept_same}
+use Rattle.owner_reached.proofs.Outcomes.{reached_improves, kept_same}
 use Rattle.owner_outboxes.proofs.Withdrawing.{withdrawn_length, withdrawn_all}
 use Rattle.owner.proofs.Choosing.{no_open_some, both_false}
 

@@ -8,7 +8,7 @@ use Rattle.owner_theory.specs.Worlds.{waiting}
 use Rattle.closed.specs.Tables.{message_of}
 use Rattle.owner.specs.declared.batch.Batch.{Batch}
 use Rattle.owner.specs.Owned.{OwnerOf, space_of, IsMessageTo}
-use Rattle.owner.specs.Queues.{h_of}
+use Rattle.owner_reached.specs.Queues.{h_of}
 use Rattle.owner.specs.Outboxes.{withdrawn}
 
 -- the owner that has these nodes, after it takes the messages of the batch

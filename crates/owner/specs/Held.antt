@@ -1,6 +1,10 @@
--- The invariant of owners, and what they need for generating successors.
+-- The invariant of owners, and what they need for taking states and generating successors.
 use Rattle.std.specs.Prelude.{ℕ, ◌<◌, ◌≤◌, List, length, All, IfSome}
+use Rattle.owner_theory.specs.Owners as machine
 use Rattle.owner_theory.specs.Owners.{At, Node, list_at}
+use Rattle.openlist.specs.declared.entry.Rank.{Rank}
+use Rattle.closed.specs.declared.message.Parent.{Parent}
+use Rattle.closed.specs.Tables.{parent_of}
 use Rattle.scp.specs.Places.{PlacesOf}
 use Rattle.owner_space.specs.Spaces.{SpaceOf}
 use Rattle.owner.specs.Owned.{OwnerOf, space_of, IsKept, IsMessageTo}
@@ -16,3 +20,7 @@ pub record IsOwner {S : Type 0} (owner : S → List ℕ → ℕ → ℕ) (o : Ow
 -- the columns of the space, with a state
 abbrev pub places_in : {S : Type 0} → SpaceOf S → List ℕ → PlacesOf
 places_in space state = record { task = space.task; columns = space.columns; state = state }
+
+-- the message with these parts
+abbrev pub message_at : List ℕ → Rank → Parent → machine.Message
+message_at state rank parent = record { state = state; cost = rank.cost; steps = rank.steps; parent = parent_of parent }

@@ -1,6 +1,5 @@
 pub mod Spaces
 pub mod Owned
-pub mod Queues
 pub mod Held
 pub mod Successors
 pub mod Outboxes

@@ -1,16 +1,16 @@
 -- One owner of states as it is stored, and the expansion of its next node (hash distributed A*: Kishimoto, Fukunaga and
 -- Botea 2013).
-use Rattle.std.specs.Prelude.{◌≡◌, ◌≢◌, ℕ, suc, ◌+◌, ◌<◌, ◌≤◌, ◌⊎◌, Bool, true, false, ◌&&◌, ◌||◌, not, ◌==◌, nat_le, if◌then◌else◌, List, [], ◌∷◌, length, slice_set, Option, Some, None, is_some}
+use Rattle.std.specs.Prelude.{◌≡◌, ◌≢◌, ℕ, suc, ◌+◌, ◌<◌, ◌≤◌, ◌⊎◌, Bool, true, false, ◌&&◌, ◌||◌, not, if◌then◌else◌, List, [], ◌∷◌, length, slice_set, Option, Some, None, is_some}
 use Rattle.cost.specs.Distances.{Distance, Infinite, is_at_most, lesser}
 use Rattle.fdr.specs.Tasks.{FiniteDomainTask, ranges, IsState, applies_at, cost_of}
-use Rattle.owner_theory.specs.Owners.{At, SearchSpace, Message, Node, Owner, f_value, rank_less, expanded_at}
+use Rattle.owner_theory.specs.Owners.{At, SearchSpace, Message, Node, Owner, f_value, expanded_at}
 use Rattle.owner_theory.specs.Worlds.{no_open, waiting}
 use Rattle.closed.specs.Tables.{padded, was_expanded}
 use Rattle.owner.specs.declared.fault.OwnerFault.{OwnerFault}
 use Rattle.owner.specs.declared.fault.OwnerFault.TheVariants.{OutOfMemory, TotalTooLarge, LimitReached}
 use Rattle.owner_space.specs.declared.ties.Ties.{Ties}
-use Rattle.owner_space.specs.declared.ties.Ties.TheVariants.{Shallow, Deep, Fresh}
 pub use Rattle.owner_space.specs.Keyed.{max_total}
+use Rattle.owner_reached.specs.TieOrders.{ties_first}
 use Rattle.owner_space.specs.Spaces.{SpaceOf, searched}
 
 -- the space and the owner's number; its nodes, and for each whether it was ever expanded, at whatever rank; an outbox
@@ -42,26 +42,6 @@ pub record IsMessageTo (space : SearchSpace) (to : ℕ) (m : Message) : Type 0 w
   pub steps : m.steps ≤ max_total
 
 -- ---- the next node
-
--- lesser ranks first, then lower indices
-abbrev pub shallow_first : ℕ → Node → ℕ → Node → Bool
-shallow_first i m j n =
-    rank_less m.cost m.steps n.cost n.steps || ((m.cost == n.cost) && ((m.steps == n.steps) && nat_le i j))
-
--- greater ranks first, then higher indices
-abbrev pub deep_first : ℕ → Node → ℕ → Node → Bool
-deep_first i m j n =
-    rank_less n.cost n.steps m.cost m.steps || ((m.cost == n.cost) && ((m.steps == n.steps) && nat_le j i))
-
--- the tie-breaking rule, the order of expansion among nodes of the same f-value; `a` and `b` are whether the first and
--- the second node were ever expanded
-abbrev pub ties_first : Ties → Bool → ℕ → Node → Bool → ℕ → Node → Bool
-ties_first Shallow a i m b j n = shallow_first i m j n
-ties_first Deep a i m b j n = deep_first i m j n
-ties_first Fresh false i m false j n = deep_first i m j n
-ties_first Fresh false i m true j n = true
-ties_first Fresh true i m false j n = false
-ties_first Fresh true i m true j n = shallow_first i m j n
 
 -- the order of expansion: by f, then by the tie-breaking rule
 abbrev pub goes_before : Ties → SearchSpace → List Bool → ℕ → Node → ℕ → Node → Bool

@@ -1,9 +1,12 @@
 -- The successors of a node, and those that are known to be duplicates that change nothing.
-use Rattle.std.specs.Prelude.{◌≡◌, ℕ, ◌<◌, true, false, List, Some, slice_index, slice_index_or, Bool}
+use Rattle.std.specs.Prelude.{◌≡◌, ℕ, ◌<◌, true, false, List, Some, slice_get, slice_index, slice_index_or, Bool}
+use Rattle.std.specs.Hash.{HashWrites}
 use Rattle.fdr.specs.Tasks.{ranges, step, is_goal_state}
 use Rattle.owner_theory.specs.Owners.{SearchSpace, Message, Node, node_of, message_to}
 use Rattle.closed.specs.declared.table.Outcome.TheVariants.{Kept}
+use Rattle.closed.specs.declared.rows.Hint.{Hint}
 use Rattle.closed.specs.Tables.{outcome_of}
+use Rattle.closed.specs.Hints.{IsHintFor}
 use Rattle.owner.specs.declared.successors.Successor.{Successor}
 
 -- the successor of the state by its operator, with correct owner and goal test, if `values` returns the values of a
@@ -28,3 +31,9 @@ abbrev pub AreKnown : SearchSpace → ℕ → ℕ → Node → List Node → Lis
 AreKnown space me index n nodes operators known =
     (k : ℕ) → slice_index_or known k false ≡ true → (t : List ℕ) → step space.task n.state (slice_index operators k) ≡ Some t
     → ChangesNothing space me nodes (message_to space.task me index n (slice_index operators k) t)
+
+-- the hints of those successors that belong to this owner are hints for their forms, if `writes` returns what a form
+-- writes to a hasher
+abbrev pub AreOwnHints : {F : Type 0} → (F → HashWrites) → ℕ → List (Successor F) → List Hint → Type 0
+AreOwnHints {F = F} writes me successors hints =
+    (k : ℕ) (s : Successor F) (h : Hint) → slice_get successors k ≡ Some s → slice_get hints k ≡ Some h → s.owner ≡ me → IsHintFor writes s.state h

@@ -7,7 +7,7 @@ ghost use Rattle.owner_theory.specs.Worlds.{waiting};
 ghost use Rattle.openlist.specs.declared.entry.OpenEntry.{OpenEntry as EntryOf};
 ghost use Rattle.closed.specs.Tables.{padded, fresh};
 ghost use Rattle.owner.specs.Owned.{space_of, under};
-ghost use Rattle.owner.specs.Queues.{h_of, IsLeast};
+ghost use Rattle.owner_reached.specs.Queues.{h_of, IsLeast};
 ghost use Rattle.owner_space.specs.Steps.{IsSmallStep};
 ghost use Rattle.owner.specs.Held.{places_in};
 ghost use Rattle.owner.specs.Batches.{ArePosted};
@@ -27,7 +27,7 @@ use std::alloc::{AllocError, Global};
 #[derive(Drop)]
 pub(crate) struct Buffers<F: StateForm + Drop> {
     successors: Vec<Successor<F>>,
-    /// For each successor the hint of its look-up.
+    /// For each successor of the owner's own a hint for its form.
     hints: Vec<Hint>,
     /// For each successor whether it is known to change nothing.
     known: Vec<bool>,
@@ -100,6 +100,7 @@ fn try_to_expand<S: Spread + Drop, F: StateForm + Drop>(
         next,
         places,
         &buffers.successors,
+        &buffers.hints,
         &buffers.known,
         &mut buffers.batch,
     )?;

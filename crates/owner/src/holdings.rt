@@ -10,20 +10,21 @@ ghost use Rattle.openlist.specs.declared.entry.OpenEntry.{OpenEntry as EntryOf};
 ghost use Rattle.closed.specs.declared.message.Parent.{Parent};
 ghost use Rattle.closed.specs.declared.table.Outcome.TheVariants.{Kept};
 ghost use Rattle.closed.specs.Tables.{padded, message_of, outcome_of, fresh, arrival};
+ghost use Rattle.closed.specs.Hints.{IsHintFor, AreHintsFor};
 ghost use Rattle.owner_space.specs.Spaces.{searched};
 ghost use Rattle.owner.specs.Owned.{space_of, under, IsMessageTo, least_open};
-ghost use Rattle.owner.specs.Queues.{h_of, message_at, IsLeast};
+ghost use Rattle.owner_reached.specs.Queues.{h_of, IsLeast};
 ghost use Rattle.owner.specs.Outboxes.{withdrawn};
-ghost use Rattle.owner.specs.Held.{IsOwner};
+ghost use Rattle.owner.specs.Held.{IsOwner, message_at};
 ghost use Rattle.owner.specs.Successors.{ChangesNothing};
 ghost use Rattle.owner.specs.Batches.{IsBatch};
 
 use crate::batch::Batch;
-use crate::reached::Reached;
 use closed::{Hint, Message, Outcome, Parent};
 use cost::Dist;
 use openlist::{OpenEntry, Rank};
 use owner_outboxes::Outboxes;
+use owner_reached::Reached;
 use owner_space::{Space, best_with, finite, is_goal_form, is_within};
 use packed::StateForm;
 use packed_spread::Spread;
@@ -136,9 +137,10 @@ impl<'a, S: Spread + Drop, F: StateForm + Drop> Holdings<'a, S, F> {
         self.reached.form(index)
     }
 
-    /// Returns the outcome that reaching the state of a form at a rank would have, whatever the hint.
+    /// Returns the outcome that reaching the state of a form at a rank would have. The hint is one for the form.
     pub(crate) fn look_hinted(&self, form: &F, rank: Rank, hint: Hint) -> Outcome
-        requires { F.IsForm (ranges self.now.space.task) form.now }
+        requires form { F.IsForm (ranges self.now.space.task) form.now }
+        requires hint { IsHintFor F.hash_input form.now hint }
         ensures { (parent : Option Parent) →
             result ≡ outcome_of self.now.nodes (fresh (F.values (ranges self.now.space.task) form.now) rank parent) }
     {
@@ -218,6 +220,7 @@ impl<'a, S: Spread + Drop, F: StateForm + Drop> Holdings<'a, S, F> {
         requires allowed { self.old.space.limit ≢ Some self.old.expansions }
         requires some { (e : EntryOf) × IsLeast self.old.space.ties (h_of self.old.space) self.old.nodes self.old.ever e }
         requires batch { IsBatch F.IsForm F.values S.owner self.old batch.old }
+        requires hints { AreHintsFor F.hash_input batch.old.own.items batch.old.hints.items }
         ensures expanded { OnOk result ((e : EntryOf) (n : Node) → IsLeast self.old.space.ties (h_of self.old.space) self.old.nodes self.old.ever e → At self.old.nodes e.index n →
             self.new ≡ record self.old {
               nodes = fold improve (slice_set self.old.nodes e.index (marked n)) (map (message_of (F.values (ranges self.old.space.task))) batch.old.own.items);
@@ -229,7 +232,7 @@ impl<'a, S: Spread + Drop, F: StateForm + Drop> Holdings<'a, S, F> {
         ensures receivers { batch.new.receivers ≡ batch.old.receivers }
     {
         self.reached
-            .expand_least(&batch.own, &batch.fs, &mut batch.outcomes)?;
+            .expand_least(&batch.own, &batch.hints, &batch.fs, &mut batch.outcomes)?;
         self.best = batch.best;
         if self.reached.space().limit().is_some() {
             self.expansions += 1;

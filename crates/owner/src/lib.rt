@@ -7,7 +7,6 @@ mod expansion;
 mod fault;
 mod holdings;
 mod owner;
-mod reached;
 mod successors;
 
 pub use closed::{Entry, Message, Parent};

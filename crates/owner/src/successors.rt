@@ -1,20 +1,22 @@
 //! The successors of a node.
 
-ghost use Rattle.std.specs.Prelude.{◌≡◌, ◌+◌, length, slice_get, Option, Some, None, true, false, map, All, IsTrue, IfOk, OnOk};
-ghost use Rattle.fdr.specs.Tasks.{ranges, IsState, applies_at, cost_of};
+ghost use Rattle.std.specs.Prelude.{◌≡◌, ◌≢◌, ◌+◌, ◌<◌, length, slice_get, Option, Some, None, true, false, map, All, IsTrue, IfOk, OnOk};
+ghost use Rattle.fdr.specs.Tasks.{ranges, IsState, applies_at, with_values, cost_of};
 ghost use Rattle.owner_theory.specs.Owners.{Node};
 ghost use Rattle.closed.specs.declared.message.Parent.{Parent};
 ghost use Rattle.closed.specs.declared.table.Outcome.TheVariants.{Kept};
 ghost use Rattle.openlist.specs.declared.entry.Rank.{Rank};
 ghost use Rattle.closed.specs.Tables.{outcome_of, fresh};
 ghost use Rattle.owner_space.specs.Steps.{IsSmallStep};
+ghost use Rattle.packed.specs.Masks.{effect_at};
 ghost use Rattle.owner.specs.Owned.{space_of};
-ghost use Rattle.owner.specs.Successors.{IsSuccessor, AreKnown};
+ghost use Rattle.closed.specs.Hints.{IsHintFor};
+ghost use Rattle.owner.specs.Successors.{IsSuccessor, AreKnown, AreOwnHints};
 
 use crate::holdings::Holdings;
 use closed::{Hint, Outcome};
 use openlist::{OpenEntry, Rank};
-use owner_space::{effect_of, is_goal_form, rank_after};
+use owner_space::{effect_of, rank_after};
 use packed::StateForm;
 use packed_spread::Spread;
 use std::alloc::{AllocError, Global};
@@ -32,8 +34,45 @@ pub(crate) struct Successor<F: StateForm + Drop> {
     pub(crate) is_goal: bool,
 }
 
-/// Returns the successor, by one operator, of the state of this form, with spread hash `hash`. It is built from the
-/// operator's changes alone; the values are not written out.
+/// Returns the spread hash of a state, or 0 if there is only one owner: then no owner is computed from it.
+fn hash_for_owners<S: Spread + Drop, F: StateForm + Drop>(
+    holdings: &Holdings<'_, S, F>,
+    state: &[u32],
+) -> u64
+    requires { IsState (ranges holdings.now.space.task) state.now }
+    ensures { length holdings.now.outboxes ≢ 1 → result ≡ S.state_hash holdings.now.space.spread state.now }
+{
+    if holdings.owners() == 1 {
+        return 0;
+    }
+    holdings.space().hash_of(state)
+}
+
+/// Returns the owner of the successor, by one operator, of a state; `hash` is the result of `hash_for_owners`. If there
+/// is only one owner, the operator is not read.
+fn owner_of_successor<S: Spread + Drop, F: StateForm + Drop>(
+    holdings: &Holdings<'_, S, F>,
+    state: &[u32],
+    hash: u64,
+    operator: usize,
+) -> usize
+    requires state { IsState (ranges holdings.now.space.task) state.now }
+    requires hash { length holdings.now.outboxes ≢ 1 → hash ≡ S.state_hash holdings.now.space.spread state.now }
+    ensures value { result ≡ S.owner holdings.now.space.spread (with_values (effect_at holdings.now.space.task operator) state.now) (length holdings.now.outboxes) }
+    ensures below { result < length holdings.now.outboxes }
+{
+    holdings.recall(); // there is an owner
+    let owners = holdings.owners();
+    if owners == 1 {
+        return 0;
+    }
+    let space = holdings.space();
+    let effect = effect_of(space.task(), operator);
+    space.owner_after(state, hash, effect, owners)
+}
+
+/// Returns the successor, by one operator, of the state of this form; `hash` is the result of `hash_for_owners`. It is
+/// built from the operator's changes alone; the values are not written out.
 fn make_successor<S: Spread + Drop, F: StateForm + Drop>(
     alloc: Global,
     holdings: &Holdings<'_, S, F>,
@@ -45,18 +84,15 @@ fn make_successor<S: Spread + Drop, F: StateForm + Drop>(
     requires form { F.IsForm (ranges holdings.now.space.task) form.now }
     requires values { F.values (ranges holdings.now.space.task) form.now ≡ state.now }
     requires state { IsState (ranges holdings.now.space.task) state.now }
-    requires hash { hash ≡ S.state_hash holdings.now.space.spread state.now }
+    requires hash { length holdings.now.outboxes ≢ 1 → hash ≡ S.state_hash holdings.now.space.spread state.now }
     requires applies { applies_at holdings.now.space.task operator state.now ≡ true }
     ensures operator { IfOk result (λ s. s.operator ≡ operator) }
     ensures made { IfOk result (IsSuccessor F.IsForm F.values (space_of S.owner holdings.now) state.now) }
 {
-    holdings.recall(); // the owner is one of several, and states of the task have the form
-    let space = holdings.space();
-    let task = space.task();
-    let effect = effect_of(task, operator);
-    let owner = space.owner_after(state, hash, effect, holdings.owners());
-    let made = form.changed(alloc, space.layout(), effect)?;
-    let is_goal = is_goal_form(task, space.layout(), &made);
+    let masks = holdings.space().masks();
+    let owner = owner_of_successor(holdings, state, hash, operator);
+    let made = form.after(alloc, masks, operator)?;
+    let is_goal = made.is_goal(masks);
     Ok(Successor {
         operator,
         state: made,
@@ -83,8 +119,7 @@ pub(crate) fn make_successors<S: Spread + Drop, F: StateForm + Drop>(
 {
     successors.clear();
     let form = holdings.form(index);
-    let space = holdings.space();
-    let hash = space.hash_of(state);
+    let hash = hash_for_owners(holdings, state);
     for &operator in operators {
         let successor = make_successor(alloc, holdings, form, state, hash, operator)?;
         successors.push(successor)?;
@@ -92,29 +127,40 @@ pub(crate) fn make_successors<S: Spread + Drop, F: StateForm + Drop>(
     Ok(())
 }
 
-/// Replaces the content of `hints` by the hints of this owner's successors, and by empty hints for the others. The
+/// Returns a hint for the successor's form if it belongs to this owner, and the hint for no form if not.
+fn own_hint<S: Spread + Drop, F: StateForm + Drop>(
+    holdings: &Holdings<'_, S, F>,
+    successor: &Successor<F>,
+) -> Hint
+    ensures { successor.now.owner ≡ holdings.now.worker → IsHintFor F.hash_input successor.now.state result }
+{
+    if successor.owner == holdings.worker() {
+        holdings.reached.hint(&successor.state)
+    } else {
+        Hint::NONE
+    }
+}
+
+/// Replaces the content of `hints` by hints for this owner's successors, and by hints for no form for the others. The
 /// slots are read in one loop, so that cache misses overlap.
 fn read_hints<S: Spread + Drop, F: StateForm + Drop>(
     holdings: &Holdings<'_, S, F>,
     successors: &[Successor<F>],
     hints: &mut Vec<Hint>,
 ) -> Result<(), AllocError>
-    ensures { OnOk result (length hints.new.items ≡ length successors.now) }
+    ensures as_many { OnOk result (length hints.new.items ≡ length successors.now) }
+    ensures hints { OnOk result (AreOwnHints F.hash_input holdings.now.worker successors.now hints.new.items) }
 {
     hints.clear();
     for successor in successors {
-        hints.push(if successor.owner == holdings.worker() {
-            holdings.reached.hint(&successor.state)
-        } else {
-            Hint::NONE
-        })?;
+        hints.push(own_hint(holdings, successor))?;
     }
     Ok(())
 }
 
 /// Returns whether this successor, of a state with rank `rank`, is a duplicate that changes nothing: its state belongs
-/// to this owner, is no goal state, and was reached at the successor's rank or a lesser one. The result does not depend
-/// on the hint.
+/// to this owner, is no goal state, and was reached at the successor's rank or a lesser one. If it belongs to this
+/// owner, the hint is one for its form.
 fn changes_nothing<S: Spread + Drop, F: StateForm + Drop>(
     holdings: &Holdings<'_, S, F>,
     rank: Rank,
@@ -123,6 +169,7 @@ fn changes_nothing<S: Spread + Drop, F: StateForm + Drop>(
 ) -> bool
     requires form { F.IsForm (ranges holdings.now.space.task) successor.now.state }
     requires small { IsSmallStep holdings.now.space.task rank successor.now.operator }
+    requires hint { successor.now.owner ≡ holdings.now.worker → IsHintFor F.hash_input successor.now.state hint }
     ensures { IsTrue result → (successor.now.owner ≡ holdings.now.worker) × (successor.now.is_goal ≡ false) × ((after : Rank) (parent : Option Parent) →
         after.cost ≡ rank.cost + cost_of holdings.now.space.task successor.now.operator → after.steps ≡ rank.steps + 1 →
         outcome_of holdings.now.nodes (fresh (F.values (ranges holdings.now.space.task) successor.now.state) after parent) ≡ Kept) }
@@ -138,8 +185,8 @@ fn changes_nothing<S: Spread + Drop, F: StateForm + Drop>(
 }
 
 /// Replaces the content of `known` by whether each successor of the node `next`, whose state is `state`, is a duplicate
-/// that changes nothing. All slots are read before all entries, each in one loop, so that cache misses overlap. `hints`
-/// is a buffer.
+/// that changes nothing, and that of `hints` by hints for this owner's successors. All slots are read before all
+/// entries, each in one loop, so that cache misses overlap.
 pub(crate) fn look_up<S: Spread + Drop, F: StateForm + Drop>(
     holdings: &Holdings<'_, S, F>,
     next: OpenEntry,
@@ -151,6 +198,8 @@ pub(crate) fn look_up<S: Spread + Drop, F: StateForm + Drop>(
     requires each { All (IsSuccessor F.IsForm F.values (space_of S.owner holdings.now) state.now) successors.now }
     requires small { All (λ s. IsSmallStep holdings.now.space.task next.rank s.operator) successors.now }
     ensures as_many { OnOk result (length known.new.items ≡ length successors.now) }
+    ensures as_many_hints { OnOk result (length hints.new.items ≡ length successors.now) }
+    ensures hints { OnOk result (AreOwnHints F.hash_input holdings.now.worker successors.now hints.new.items) }
     ensures known { OnOk result (AreKnown (space_of S.owner holdings.now) holdings.now.worker next.index (fresh state.now next.rank None) holdings.now.nodes (map (λ s. s.operator) successors.now) known.new.items) }
 {
     read_hints(holdings, successors, hints)?;

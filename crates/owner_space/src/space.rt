@@ -15,7 +15,7 @@ use crate::ties::Ties;
 use cost::Dist;
 use fdr::{Fact, FdrTask};
 use fdr_successors::SuccessorGenerator;
-use packed::Layout;
+use packed::{Layout, TaskMasks};
 use packed_spread::Spread;
 use scp::{Columns, Places};
 use std::alloc::{AllocError, Global};
@@ -33,6 +33,7 @@ pub struct Space<'a, S: Spread + Drop> {
     ties: Ties,
     generator: SuccessorGenerator<'a>,
     layout: Layout,
+    masks: TaskMasks<'a>,
     /// The least cost of an operator.
     least_cost: u64,
     /// The greatest cost of an operator.
@@ -41,6 +42,7 @@ pub struct Space<'a, S: Spread + Drop> {
     ghost spread_is_of_task: { S.ranges spread ≡ tasks.ranges task.now },
     ghost generator_is_of_task: { generator ≡ task.now },
     ghost layout_is_of_task: { layout ≡ tasks.ranges task.now },
+    ghost masks_are_of_task: { masks ≡ task.now },
     ghost least_cost_is_of_task: { least_cost ≡ costs.least_cost task.now },
     ghost least_cost_is_small: { least_cost ≤ MAX_COST },
     ghost greatest_cost_is_of_task: { greatest_cost ≡ costs.greatest_cost task.now },
@@ -95,6 +97,7 @@ impl<'a, S: Spread + Drop> Space<'a, S> {
     {
         let generator = SuccessorGenerator::new(alloc, task)?;
         let layout = Layout::new(alloc, task)?;
+        let masks = TaskMasks::new(alloc, &layout, task)?;
         Ok(Space {
             task,
             columns,
@@ -103,6 +106,7 @@ impl<'a, S: Spread + Drop> Space<'a, S> {
             ties,
             generator,
             layout,
+            masks,
             least_cost: least_cost(task),
             greatest_cost: greatest_cost(task),
         })
@@ -127,6 +131,13 @@ impl<'a, S: Spread + Drop> Space<'a, S> {
         ensures { result.now ≡ tasks.ranges self.now.task }
     {
         &self.layout
+    }
+
+    /// Returns the effects of the task's operators, and its goal, as masks over the words of packed states.
+    pub fn masks(&self) -> &TaskMasks<'a>
+        ensures { result.now ≡ self.now.task }
+    {
+        &self.masks
     }
 
     /// Returns the least cost of an operator. Without operators it is the greatest cost there is.

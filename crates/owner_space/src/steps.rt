@@ -4,7 +4,8 @@ ghost use Rattle.std.specs.Prelude.{◌≡◌, ◌+◌, ◌≤◌, ◌||◌, nat
 ghost use Rattle.std.specs.List.{list_any};
 ghost use Rattle.fdr.specs.Tasks.{ranges, IsAssignment, is_goal_state, cost_of};
 ghost use Rattle.owner_space.specs.Keyed.{max_total};
-ghost use Rattle.owner_space.specs.Steps.{effect_at, IsSmallStep};
+ghost use Rattle.owner_space.specs.Steps.{IsSmallStep};
+ghost use Rattle.packed.specs.Masks.{effect_at};
 
 use crate::ties::MAX_TOTAL;
 use fdr::{Fact, FdrTask};

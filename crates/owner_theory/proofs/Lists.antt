@@ -15,6 +15,21 @@ at_get [] i x h = absurd (cc)
 at_get (y ∷ xs) zero x h = let same : y ≡ x = cc in same
 at_get (y ∷ xs) (suc i) x h = at_get xs i x h
 
+pub get_at : {X : Type 0} (xs : List X) (i : ℕ) (x : X) → At xs i x → slice_get xs i ≡ Some x
+get_at [] i x h = absurd h
+get_at (y ∷ xs) zero x h = ap Some h
+get_at (y ∷ xs) (suc i) x h = get_at xs i x h
+
+pub there_at : {X : Type 0} (xs : List X) (i : ℕ) → i < length xs → (x : X) × At xs i x
+there_at [] i lt = absurd (omega arith)
+there_at (y ∷ xs) zero lt = (y, refl)
+there_at (y ∷ xs) (suc i) lt = there_at xs i (omega arith)
+
+pub at_below : {X : Type 0} (xs : List X) (i : ℕ) (x : X) → At xs i x → i < length xs
+at_below [] i x h = absurd h
+at_below (y ∷ xs) zero x h = omega arith
+at_below (y ∷ xs) (suc i) x h = let rest = at_below xs i x h in omega arith
+
 pub get_below : {X : Type 0} (xs : List X) (i : ℕ) (x : X) → slice_get xs i ≡ Some x → i < length xs
 get_below [] i x h = absurd (cc)
 get_below (y ∷ ys) zero x h = omega arith
@@ -57,6 +72,13 @@ in_range a (suc n) o le lt =
     (cases_lt o (a + 1))
 
 -- ---- another value at one place
+
+pub set_elsewhere : {X : Type 0} (xs : List X) (i : ℕ) (y : X) (j : ℕ) (x : X) → (j ≡ i → ⊥) → At xs j x → At (slice_set xs i y) j x
+set_elsewhere [] i y j x ne h = h
+set_elsewhere (z ∷ xs) zero y zero x ne h = absurd (ne refl)
+set_elsewhere (z ∷ xs) zero y (suc j) x ne h = h
+set_elsewhere (z ∷ xs) (suc i) y zero x ne h = h
+set_elsewhere (z ∷ xs) (suc i) y (suc j) x ne h = set_elsewhere xs i y j x (λ e. ne (ap suc e)) h
 
 pub put_cases : {X : Type 0} (f : ℕ → X) (w : ℕ) (x : X) (v : ℕ) (P : X → Type 0) → (v ≡ w → P x)
     → ((v == w) ≡ false → P (f v)) → P (put f w x v)

@@ -1,5 +1,5 @@
 -- Words of a state in which values are changed.
-use Rattle.std.proofs.Common.{◌≡◌, ◌≢◌, ℕ, zero, suc, ◌+◌, ◌-◌, ◌*◌, ◌%◌, ◌^◌, ◌<◌, ◌≤◌, List, [], ◌∷◌, length, get_or, set, refl, sym, ap, ◌∙◌, subst, arith, length-set, get_or-set_same, get_or-set_other}
+use Rattle.std.proofs.Common.{◌≡◌, ◌≢◌, ℕ, zero, suc, ◌+◌, ◌*◌, ◌^◌, ◌<◌, ◌≤◌, List, [], ◌∷◌, length, get_or, set, refl, sym, ap, ◌∙◌, subst, arith, length-set, get_or-set_same, get_or-set_other}
 use Rattle.std.specs.Prelude.{slice_index, slice_set, All}
 use Rattle.std.proofs.Math.Logic.{⊎_elim}
 use Rattle.std.proofs.lemmas.Bool.{cases_eq}
@@ -10,7 +10,6 @@ use Rattle.fdr.specs.Tasks.{IsState, IsInRange, with_values}
 use Rattle.packed.specs.declared.field.Field.{Field}
 use Rattle.packed.specs.Fields.{fields, word_at, words_of, values_in, value_in, AreWithinLimits, ArePacked}
 use Rattle.packed.proofs.Placing.{own_field, other_field, word_of, words_fit, packed_back, words_are_packed, value_at, IsFieldOf}
-use Rattle.packed.proofs.Shifts.{shifted_up}
 
 -- ---- states
 
@@ -61,13 +60,13 @@ word_kept k (f ∷ fs) (a ∷ vs) (suc v) x field more more' is other =
 
 -- ---- the words, where the value of a fact is written into its field
 
--- what writing gives: nothing overflows, and the words are those of the changed state
-pub record IsWritten (count : ℕ) (words ranges : List ℕ) (fact : Fact) (field : Field) (old new : ℕ) : Type 0 where
-  pub within : old ≤ get_or words field.word 0
-  pub fits : get_or words field.word 0 - old + new < 2 ^ 64
-  pub form : ArePacked count ranges (set words field.word (get_or words field.word 0 - old + new))
-  pub values : values_in (set words field.word (get_or words field.word 0 - old + new)) ranges
-      ≡ slice_set (values_in words ranges) fact.variable fact.value
+with_part : (after here part new later : ℕ) → after + part ≡ here + new → later + part ≡ here + new → after ≡ later
+with_part after here part new later e e' = omega arith
+
+-- with this word in place of the fact's, the words are those of the changed state
+pub record IsWritten (count : ℕ) (words ranges : List ℕ) (fact : Fact) (field : Field) (after : ℕ) : Type 0 where
+  pub form : ArePacked count ranges (set words field.word after)
+  pub values : values_in (set words field.word after) ranges ≡ slice_set (values_in words ranges) fact.variable fact.value
 
 module _ (count : ℕ) (words ranges : List ℕ) (fact : Fact) (field : Field) (packed : ArePacked count ranges words) (limits : AreWithinLimits ranges)
     (ok : IsInRange ranges fact) (at : IsFieldOf count ranges fact.variable field) where
@@ -80,9 +79,6 @@ module _ (count : ℕ) (words ranges : List ℕ) (fact : Fact) (field : Field) (
   state' : IsState ranges vs'
   state' = state_with_value ranges vs fact packed.state ok
 
-  abbrev was : ℕ
-  was = get_or vs fact.variable 0
-
   there : fact.variable < length vs
   there = omega (arith, ok.0, packed.state.as_long)
 
@@ -92,46 +88,30 @@ module _ (count : ℕ) (words ranges : List ℕ) (fact : Fact) (field : Field) (
   word_is : (k : ℕ) → k < count → get_or words k 0 ≡ word_at k (fields ranges) vs
   word_is k inside = ap (λ (ws : List ℕ). get_or ws k 0) packed.no_other_bits ∙ word_of count ranges vs k inside
 
-  changes : (x : ℕ) → word_at field.word (fields ranges) (slice_set vs fact.variable x) + was * 2 ^ field.shift ≡ word_at field.word (fields ranges) vs + x * 2 ^ field.shift
-  changes x = word_changed field.word (fields ranges) vs fact.variable x field at.exists there at.is refl
+  changes : word_at field.word (fields ranges) vs' + value_in words field * 2 ^ field.shift ≡ word_at field.word (fields ranges) vs + fact.value * 2 ^ field.shift
+  changes =
+      ap (λ n. word_at field.word (fields ranges) vs' + n * 2 ^ field.shift) (sym (value_at count words ranges fact.variable field at))
+      ∙ word_changed field.word (fields ranges) vs fact.variable fact.value field at.exists there at.is refl
 
-  part : was * 2 ^ field.shift ≤ word_at field.word (fields ranges) vs
-  part = omega (arith, changes 0)
+  -- a word is below 2 ^ 64
+  pub word_low : get_or words field.word 0 < 2 ^ 64
+  word_low =
+      rw (word_is field.word at.placed.inside)
+      (words_fit field.word ranges vs
+      (All-weaker (λ range. range ≤ 65536) (λ range. range ≤ 2 ^ 64) (λ range short. omega arith) ranges limits.values) packed.state)
 
-  small : (values : List ℕ) → IsState ranges values → word_at field.word (fields ranges) values < 2 ^ 64
-  small values state =
-      words_fit field.word ranges values
-      (All-weaker (λ range. range ≤ 65536) (λ range. range ≤ 2 ^ 64) (λ range short. omega arith) ranges limits.values) state
-
-  pub written : (value old new : ℕ) → value ≡ value_in words field → old ≡ (value * 2 ^ (field.shift % 64)) % 2 ^ 64
-      → new ≡ (fact.value * 2 ^ (field.shift % 64)) % 2 ^ 64 → IsWritten count words ranges fact field old new
-  written value old new value_is old_is new_is =
+  pub written : (after : ℕ) → after + value_in words field * 2 ^ field.shift ≡ get_or words field.word 0 + fact.value * 2 ^ field.shift
+      → IsWritten count words ranges fact field after
+  written after after_is =
       record {
-        within = omega (arith, here, old_whole, part);
-        fits = omega (arith, here, old_whole, new_whole, changes fact.value, part, small vs' state');
         form = subst (λ (ws : List ℕ). ArePacked count ranges ws) (sym are) (words_are_packed count ranges vs' packed.fits state');
         values = ap (λ (ws : List ℕ). values_in ws ranges) are ∙ packed_back count ranges vs' packed.fits state';
       }
     where
-      here : get_or words field.word 0 ≡ word_at field.word (fields ranges) vs
-      here = word_is field.word at.placed.inside
-
-      old_whole : old ≡ was * 2 ^ field.shift
-      old_whole =
-          old_is
-          ∙ ap (λ n. (n * 2 ^ (field.shift % 64)) % 2 ^ 64) (value_is ∙ sym (value_at count words ranges fact.variable field at))
-          ∙ shifted_up was field.shift (omega (arith, at.placed.in_one_word)) (omega (arith, part, small vs packed.state))
-
-      new_whole : new ≡ fact.value * 2 ^ field.shift
-      new_whole =
-          new_is
-          ∙ shifted_up fact.value field.shift (omega (arith, at.placed.in_one_word)) (omega (arith, changes fact.value, part, small vs' state'))
-
-      after : ℕ
-      after = get_or words field.word 0 - old + new
-
-      after_is : after ≡ word_at field.word (fields ranges) vs'
-      after_is = omega (arith, here, old_whole, new_whole, changes fact.value, part)
+      same : after ≡ word_at field.word (fields ranges) vs'
+      same =
+          with_part after (get_or words field.word 0) (value_in words field * 2 ^ field.shift) (fact.value * 2 ^ field.shift) (word_at field.word (fields ranges) vs') after_is
+          (changes ∙ ap (λ n. n + fact.value * 2 ^ field.shift) (sym (word_is field.word at.placed.inside)))
 
       are : set words field.word after ≡ words_of count ranges vs'
       are =
@@ -140,7 +120,7 @@ module _ (count : ℕ) (words ranges : List ℕ) (fact : Fact) (field : Field) (
           ⊎_elim
           (λ (own : field.word ≡ k).
           let set_here : get_or (set words field.word after) k 0 ≡ after = rw (← own) (get_or-set_same words field.word after 0 (omega (arith, long, at.placed.inside))) in
-          set_here ∙ after_is ∙ ap (λ j. word_at j (fields ranges) vs') own)
+          set_here ∙ same ∙ ap (λ j. word_at j (fields ranges) vs') own)
           (λ other.
           get_or-set_other words field.word k after 0 (λ e. other (sym e)) ∙ word_is k within
           ∙ sym (word_kept k (fields ranges) vs fact.variable fact.value field at.exists there at.is other))

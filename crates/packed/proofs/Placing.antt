@@ -344,6 +344,34 @@ length_from word bit (range ∷ ranges) =
 pub length-fields : (ranges : List ℕ) → length (fields ranges) ≡ length ranges
 length-fields ranges = length_from 0 0 ranges
 
+-- the field of a variable is as wide as its range asks
+wide : (word bit : ℕ) (ranges : List ℕ) (v : ℕ) (d : Field) → v < length ranges → (get_or (fields_from word bit ranges) v d).width ≡ width_of (get_or ranges v 0)
+wide word bit [] v d within = absurd (omega arith)
+wide word bit (range ∷ ranges) zero d within =
+    place_both word bit (width_of range) (λ field. field.width ≡ width_of range) (λ _. refl) (λ _. refl)
+wide word bit (range ∷ ranges) (suc v) d within =
+    let field = place word bit (width_of range) in wide field.word (field.shift + field.width) ranges v d (omega arith)
+
+pub narrow_value : (count : ℕ) (ranges : List ℕ) (v value : ℕ) (field : Field) → v < length ranges → value < get_or ranges v 0 → IsFieldOf count ranges v field
+    → value < 2 ^ field.width
+narrow_value count ranges v value field exists below at =
+    let width : field.width ≡ width_of (get_or ranges v 0) = ap (λ (f : Field). f.width) at.is ∙ wide 0 0 ranges v field exists in
+    omega (arith, below, width_enough (get_or ranges v 0), ap (λ w. 2 ^ w) width)
+
+-- in more words it is the same field
+pub field_among : (count more : ℕ) (ranges : List ℕ) (v : ℕ) (field : Field) → count ≤ more → IsFieldOf count ranges v field → IsFieldOf more ranges v field
+field_among count more ranges v field room at =
+    record {
+      exists = at.exists;
+      is = at.is;
+      placed = record {
+        inside = omega (arith, at.placed.inside);
+        near = at.placed.near;
+        in_one_word = at.placed.in_one_word;
+        narrow = at.placed.narrow;
+      };
+    }
+
 -- the value of a variable is the number in its field
 pub value_at : (count : ℕ) (words ranges : List ℕ) (variable : ℕ) (field : Field) → IsFieldOf count ranges variable field
     → get_or (values_in words ranges) variable 0 ≡ value_in words field

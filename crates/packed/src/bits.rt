@@ -1,13 +1,15 @@
 //! States packed into bits.
 
-ghost use Rattle.std.specs.Prelude.{◌≡◌, ◌+◌, ◌<◌, ◌≤◌, ◌↔◌, ℕ, List, length, slice_set, IsTrue, IfOk, All};
-ghost use Rattle.fdr.specs.Tasks.{IsState, IsInRange, with_values};
+ghost use Rattle.std.specs.Prelude.{◌≡◌, ◌+◌, ◌<◌, ◌≤◌, ◌↔◌, ℕ, List, length, IsTrue, IfOk, All};
+ghost use Rattle.fdr.specs.Tasks.{IsState};
 ghost use Rattle.packed.specs.Fields as spec;
+ghost use Rattle.packed.specs.Masks.{IsWordOf, masked, pass_all};
 
 use crate::field::Field;
 use crate::form::StateForm;
 use crate::layout::Layout;
-use fdr::Fact;
+use crate::mask::{WordMask, WordTest};
+use crate::masks::TaskMasks;
 use std::alloc::{AllocError, Global};
 
 /// A state as `WORDS` words of 64 bits, which are stored in the form itself. A variable takes as many bits as its
@@ -41,29 +43,27 @@ impl<const WORDS: usize> Bits<WORDS> {
         self.words[field.word].wrapping_shr(field.shift) & ((1 << field.width) - 1)
     }
 
-    /// Writes the value of a fact into its variable's bits.
-    fn set_value(&mut self, layout: &Layout, fact: Fact)
-        requires form { spec.ArePacked WORDS layout.now self.old.words }
-        requires fact { IsInRange layout.now fact }
-        ensures form { spec.ArePacked WORDS layout.now self.new.words }
-        ensures values { spec.values_in self.new.words layout.now ≡ slice_set (spec.values_in self.old.words layout.now) fact.variable fact.value }
+    /// Applies masks to the words, one after the other.
+    fn apply(&mut self, masks: &[WordMask])
+        requires { All (λ m. IsWordOf WORDS m.word) masks.now }
+        ensures { self.new.words ≡ masked masks.now self.old.words }
     {
-        let field = layout.fields()[fact.variable];
-        let old = self.number_in(field).wrapping_shl(field.shift);
-        let new = (fact.value as u64).wrapping_shl(field.shift);
-        self.words[field.word] = self.words[field.word] - old + new;
+        for mask in masks {
+            self.words[mask.word] = mask.of(self.words[mask.word]);
+        }
     }
 
-    /// Writes the values of facts into their variables' bits.
-    fn set_values(&mut self, layout: &Layout, facts: &[Fact])
-        requires form { spec.ArePacked WORDS layout.now self.old.words }
-        requires facts { All (IsInRange layout.now) facts.now }
-        ensures form { spec.ArePacked WORDS layout.now self.new.words }
-        ensures values { spec.values_in self.new.words layout.now ≡ with_values facts.now (spec.values_in self.old.words layout.now) }
+    /// Returns whether the words pass all tests.
+    fn passes(&self, tests: &[WordTest]) -> bool
+        requires { All (λ t. IsWordOf WORDS t.word) tests.now }
+        ensures { result ≡ pass_all tests.now self.now.words }
     {
-        for fact in facts {
-            self.set_value(layout, *fact);
+        for test in tests {
+            if !test.passes(self.words[test.word]) {
+                return false;
+            }
         }
+        true
     }
 
     /// Returns whether the number in each variable's bits is below the variable's range.
@@ -152,15 +152,19 @@ impl<const WORDS: usize> StateForm for Bits<WORDS> {
         Ok(*self)
     }
 
-    fn changed(
+    fn after(
         &self,
         alloc: Global,
-        layout: &Layout,
-        facts: &[Fact],
+        masks: &TaskMasks<'_>,
+        operator: usize,
     ) -> Result<Bits<WORDS>, AllocError> {
         let _ = alloc;
-        let mut changed = *self;
-        changed.set_values(layout, facts);
-        Ok(changed)
+        let mut after = *self;
+        after.apply(masks.effect(operator));
+        Ok(after)
+    }
+
+    fn is_goal(&self, masks: &TaskMasks<'_>) -> bool {
+        self.passes(masks.goal())
     }
 }

@@ -1,7 +1,7 @@
 //! The trait of forms of states.
 
 use crate::layout::Layout;
-use fdr::Fact;
+use crate::masks::TaskMasks;
 use std::alloc::{AllocError, Global};
 use std::hash::Hash;
 
@@ -9,7 +9,8 @@ use std::hash::Hash;
 /// exactly if their states are.
 pub trait StateForm: Eq + Hash {
     ghost use Rattle.std.specs.Prelude.{◌≡◌, ◌↔◌, ◌<◌, ℕ, List, length, slice_index, IsTrue, IfOk};
-    ghost use Rattle.fdr.specs.Tasks.{IsState, IsAssignment, with_values};
+    ghost use Rattle.fdr.specs.Tasks.{ranges, IsState, with_values, is_goal_state};
+    ghost use Rattle.packed.specs.Masks.{effect_at};
 
     /// States over variables with these ranges have this form.
     ghost Fits: { List ℕ → Type 0 };
@@ -68,13 +69,23 @@ pub trait StateForm: Eq + Hash {
         ensures values { (ranges : List ℕ) → IsForm ranges self.now →
             IfOk result (λ f. values ranges f ≡ values ranges self.now) };
 
-    /// Returns the form of the state in which the variables of these facts have the facts' values, and all others their
-    /// value in this form's state.
-    fn changed(&self, alloc: Global, layout: &Layout, facts: &[Fact]) -> Result<Self, AllocError>
-        requires form { IsForm layout.now self.now }
-        requires facts { IsAssignment layout.now facts.now }
-        ensures form { IfOk result (IsForm layout.now) }
-        ensures values { IfOk result (λ f. values layout.now f ≡ with_values facts.now (values layout.now self.now)) };
+    /// Returns the form of the state after the effect of an operator: its variables have the effect's values, and all
+    /// others their value in this form's state.
+    fn after(
+        &self,
+        alloc: Global,
+        masks: &TaskMasks<'_>,
+        operator: usize,
+    ) -> Result<Self, AllocError>
+        requires form { IsForm (ranges masks.now) self.now }
+        requires operator { operator < length masks.now.operators }
+        ensures form { IfOk result (IsForm (ranges masks.now)) }
+        ensures values { IfOk result (λ f. values (ranges masks.now) f ≡ with_values (effect_at masks.now operator) (values (ranges masks.now) self.now)) };
+
+    /// Returns whether the state is a goal state.
+    fn is_goal(&self, masks: &TaskMasks<'_>) -> bool
+        requires { IsForm (ranges masks.now) self.now }
+        ensures { result ≡ is_goal_state masks.now (values (ranges masks.now) self.now) };
 
     /// The values of a form are a state.
     ghost state: { (ranges : List ℕ) (f : Self) → IsForm ranges f → IsState ranges (values ranges f) };

@@ -6,6 +6,8 @@ mod field;
 mod form;
 mod laws;
 mod layout;
+mod mask;
+mod masks;
 mod plain;
 mod smallest;
 
@@ -13,4 +15,5 @@ pub use bits::Bits;
 pub use form::StateForm;
 pub use laws::{widths, worked_examples};
 pub use layout::Layout;
+pub use masks::TaskMasks;
 pub use plain::Plain;

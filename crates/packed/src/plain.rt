@@ -5,6 +5,7 @@ ghost use Rattle.fdr.specs.Tasks.{with_values};
 
 use crate::form::StateForm;
 use crate::layout::Layout;
+use crate::masks::TaskMasks;
 use fdr::Fact;
 use smallvec::SmallVec;
 use std::alloc::{AllocError, Global};
@@ -90,10 +91,20 @@ impl StateForm for Plain {
         })
     }
 
-    fn changed(&self, alloc: Global, layout: &Layout, facts: &[Fact]) -> Result<Plain, AllocError> {
-        let _ = layout;
+    fn after(
+        &self,
+        alloc: Global,
+        masks: &TaskMasks<'_>,
+        operator: usize,
+    ) -> Result<Plain, AllocError> {
+        let operator = &masks.task().operators()[operator];
+        let facts: &[Fact] = &operator.effect;
         let mut changed = self.copy(alloc)?;
         set_values(facts, changed.values.as_mut_slice());
         Ok(changed)
+    }
+
+    fn is_goal(&self, masks: &TaskMasks<'_>) -> bool {
+        masks.task().is_goal(self.values.as_slice())
     }
 }

@@ -11,9 +11,9 @@ ghost use Rattle.pdb_patterns.specs.Choices.{IsMappingWithin};
 ghost use Rattle.pdb_refinement.specs.Refinements.{is_of_kind};
 ghost use Rattle.pdb_refinement.specs.Classes.{AreOrderedWithin, rows_by, whole_row};
 
-use crate::rows::{copies_of, own_classes, position_of};
+use crate::rows::{own_classes, position_of};
 use crate::split::numbered_row;
-use abstraction_domain::ClassRow;
+use abstraction_domain::{ClassRow, copied_rows};
 use abstraction_mapping::Mapping;
 use fdr::FdrTask;
 use pdb_flaws::Kind;
@@ -146,7 +146,7 @@ pub(crate) fn rows_of(
             Ok(rows)
         }
         Mapping::Domains(rows) => {
-            let copies = copies_of(alloc, rows)?;
+            let copies = copied_rows(alloc, rows)?;
             Ok(copies)
         }
     }

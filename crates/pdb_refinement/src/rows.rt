@@ -35,17 +35,6 @@ pub(crate) fn position_of(rows: &[ClassRow], variable: usize) -> Option<usize>
     None
 }
 
-/// Returns second rows with the same variables and classes.
-pub(crate) fn copies_of(alloc: Global, rows: &[ClassRow]) -> Result<Vec<ClassRow>, AllocError>
-    ensures { IfOk result (λ copies. copies.items ≡ rows.now) }
-{
-    let mut copies = Vec::with_capacity(alloc, rows.len())?;
-    for row in rows {
-        copies.push(row.copied(alloc)?)?;
-    }
-    Ok(copies)
-}
-
 /// The classes of a variable's values: those of its row, and class 0 for each without a row.
 pub(crate) fn classes_of(
     alloc: Global,

@@ -8,7 +8,7 @@ use Rattle.abstraction_domain.specs.Rows.{Row}
 use Rattle.abstraction_domain.specs.Domains.{variables}
 use Rattle.abstraction_mapping.specs.Mappings.{Mapping, Pattern, Domains}
 use Rattle.cert_value.specs.declared.certificate.Version.{Version}
-use Rattle.cert_value.specs.declared.certificate.Version.TheVariants.{One, Two}
+use Rattle.cert_value.specs.declared.certificate.Version.TheVariants.{One, Two, Three}
 use Rattle.cert_value.specs.declared.table.Share.{Share}
 use Rattle.cert_value.specs.Certificates.{Table}
 use Rattle.cert_value.specs.Lawful.{IsShort, IsIncreasing, IsPattern, IsRow, AreRows, IsLawfulMapping, IsShare, IsTable, IsColumn, AreColumns}
@@ -66,8 +66,10 @@ rows_prop rows x y = λ i. record {
 mapping_prop : (version : Version) (m : Mapping) → IsProp (IsLawfulMapping version m)
 mapping_prop One (Pattern pattern) = pattern_prop pattern
 mapping_prop Two (Pattern pattern) = pattern_prop pattern
+mapping_prop Three (Pattern pattern) = pattern_prop pattern
 mapping_prop One (Domains rows) = nothing_prop
 mapping_prop Two (Domains rows) = rows_prop rows
+mapping_prop Three (Domains rows) = rows_prop rows
 
 pub table_prop : {version : Version} (t : Table) → IsProp (IsTable version t)
 table_prop {version} t x y = λ i. record {

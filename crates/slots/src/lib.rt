@@ -5,4 +5,4 @@ mod home;
 mod probing;
 
 pub use home::home_of;
-pub use probing::{Slot, add, slot_after};
+pub use probing::{Slot, add, fill, slot_after};

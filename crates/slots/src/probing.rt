@@ -50,6 +50,16 @@ fn steps_to_empty<N: Copy>(slots: &[Slot<N>], home: usize) -> usize
     unreachable!()
 }
 
+/// Writes a slot into the first empty one of the probe sequence from slot `home`, which comes after `steps` probes.
+pub fn fill<N: Copy>(slots: &mut [Slot<N>], home: usize, steps: usize, slot: Slot<N>)
+    requires home { home < length slots.old }
+    requires few { length slots.old < 2 ^ 32 }
+    requires first { IsFirstEmpty (links_of slots.old) home steps }
+    ensures { AddsSlot home slot slots.old slots.new }
+{
+    slots[probed(slots.len(), home, steps)] = slot;
+}
+
 /// Writes a slot into the first empty one of the probe sequence from slot `home`.
 pub fn add<N: Copy>(slots: &mut [Slot<N>], home: usize, slot: Slot<N>)
     requires home { home < length slots.old }
@@ -58,5 +68,5 @@ pub fn add<N: Copy>(slots: &mut [Slot<N>], home: usize, slot: Slot<N>)
     ensures { AddsSlot home slot slots.old slots.new }
 {
     let steps = steps_to_empty(slots, home);
-    slots[probed(slots.len(), home, steps)] = slot;
+    fill(slots, home, steps, slot);
 }

@@ -1,11 +1,15 @@
 //! The text of a certificate.
 
+ghost use Rattle.std.specs.Prelude.{◌≡◌, false};
+ghost use Rattle.cert_value.specs.Classes.{has_classes};
+
 use abstraction_domain::ClassRow;
 use abstraction_mapping::Mapping;
-use cert_text::{CertFault, MAX_LENGTH, read_cert, write_cert};
+use cert_text::{CertFault, MAX_LENGTH, read_cert};
 use cert_value::{
     AbstractionTable, Certificate, CertificateKind, ClosedList, Share, Values, Version,
 };
+use cert_writer::write_cert;
 use cost::Dist;
 use std::alloc::{AllocError, Global};
 use std::process::Abort;
@@ -163,7 +167,7 @@ fn every_front_is_truncated(rt: HostRuntime) {
 
 /// Rows of the lines before the atoms.
 const HEADS: &[&[u8]] = &[
-    b"1|H|optplan-cert 1\r|optplan-cert 1 |optplan-cert 3|optplan-cert 02|optplan-cert 12|",
+    b"1|H|optplan-cert 1\r|optplan-cert 1 |optplan-cert 4|optplan-cert 02|optplan-cert 12|",
     b"1|-|optplan-cert 2",
     b"2|E2|pddl\r|fdr|",
     b"3|E3|bound  |bound |bound 2 | bound 2|bound|bound\t2|bound 2 2|bount 2|",
@@ -395,7 +399,9 @@ fn one_state(rt: &impl Abort, alloc: Global) -> ClosedList {
     closed
 }
 
-fn large_text(rt: &impl Abort, alloc: Global, version: Version, mapping: Mapping) -> Vec<u8> {
+fn large_text(rt: &impl Abort, alloc: Global, version: Version, mapping: Mapping) -> Vec<u8>
+    requires { has_classes version ≡ false }
+{
     let certificate = Certificate::new(
         version,
         CertificateKind::Sas,

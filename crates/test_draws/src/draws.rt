@@ -101,7 +101,7 @@ fn proves<'a, R: AllocGlobal + Threads + Sync + Abort, S: Spread + Drop, F: Stat
     joined: &Joined<'a, S, F>,
     cost: u64,
 ) -> Result<(), Fail> {
-    let certificate = cert_of(rt.alloc(), joined, CertificateKind::Sas)?;
+    let certificate = cert_of(rt, rt.alloc(), joined, CertificateKind::Sas)?;
     let bound = Dist::fin(cost).ok_or("a cost")?;
     assert_eq!(rt;
         check_fdr(rt, task, &certificate)?,

@@ -1,8 +1,8 @@
 //! Two owners of the values of one variable, the even ones and the odd ones, without columns.
 
 use cert::cert_of;
-use cert_text::write_cert;
 use cert_value::CertificateKind;
+use cert_writer::write_cert;
 use extract::plan_of;
 use fdr::FdrTask;
 use netcore::WorldStep::{Deliver, Expand, Look, Offer, Rest, Send};
@@ -252,23 +252,24 @@ fn has_plan<S: Spread + Drop, F: StateForm + Drop>(
 
 /// Returns the text of the certificate.
 fn certificate_text<S: Spread + Drop, F: StateForm + Drop>(
+    rt: &(impl Threads + Sync),
     alloc: Global,
     joined: &Joined<'_, S, F>,
 ) -> Result<Vec<u8>, AllocError> {
-    let certificate = cert_of(alloc, joined, CertificateKind::Sas)?;
+    let certificate = cert_of(rt, alloc, joined, CertificateKind::Sas)?;
     write_cert(alloc, &certificate)
 }
 
 /// Checks the plan to the best goal node, and the text of the certificate.
 fn has_answer<S: Spread + Drop, F: StateForm + Drop>(
-    rt: &impl Abort,
+    rt: &(impl Abort + Threads + Sync),
     alloc: Global,
     joined: &Joined<'_, S, F>,
     plan: &[usize],
     text: &str,
 ) {
     has_plan(rt, alloc, joined, plan);
-    let written = certificate_text(alloc, joined).expect(rt, "memory");
+    let written = certificate_text(rt, alloc, joined).expect(rt, "memory");
     assert_eq!(rt; written.as_slice(), text.as_bytes());
 }
 
@@ -310,7 +311,7 @@ fn run_to_the_end<'a, S: Spread + Drop>(
 
 /// As `run_to_the_end`, with this plan and this text of a certificate at the end.
 fn end_so<'a, S: Spread + Drop>(
-    rt: &impl Abort,
+    rt: &(impl Abort + Threads + Sync),
     alloc: Global,
     space: &'a Space<'a, S>,
     steps: &[WorldStep],

@@ -4,6 +4,7 @@ use cert::sorted_list;
 use cert_value::ClosedList;
 use std::alloc::Global;
 use std::process::Abort;
+use std::thread::Threads;
 
 /// Checks that these are the states, in the order of their values.
 fn is_sorted(rt: &impl Abort, closed: &ClosedList) {
@@ -20,7 +21,7 @@ fn is_sorted(rt: &impl Abort, closed: &ClosedList) {
 fn sorts_by_values(rt: HostRuntime) {
     let costs = [9, 2, 5, 4, 0];
     let values = [2, 0, 1, 70_000, 1, 3, 2, 0, 0, 9];
-    let closed = sorted_list(rt.alloc(), 2, &costs, &values).expect(&rt, "memory");
+    let closed = sorted_list(&rt, rt.alloc(), 2, &costs, &values).expect(&rt, "memory");
     is_sorted(&rt, &closed);
 }
 
@@ -32,13 +33,15 @@ fn has_one_state(rt: &impl Abort, closed: &ClosedList) {
 
 #[test]
 fn sorts_states_without_values(rt: HostRuntime) {
-    let closed = sorted_list(rt.alloc(), 0, &[7], &[]).expect(&rt, "memory");
+    let closed = sorted_list(&rt, rt.alloc(), 0, &[7], &[]).expect(&rt, "memory");
     has_one_state(&rt, &closed);
 }
 
 /// Returns the number of states of a list that is made from none.
-fn count_of_none(rt: &impl Abort, alloc: Global) -> usize {
-    sorted_list(alloc, 3, &[], &[]).expect(rt, "memory").len()
+fn count_of_none(rt: &(impl Abort + Threads + Sync), alloc: Global) -> usize {
+    sorted_list(rt, alloc, 3, &[], &[])
+        .expect(rt, "memory")
+        .len()
 }
 
 #[test]

@@ -2,8 +2,9 @@
 
 ghost use Rattle.std.specs.Prelude.{◌≡◌, All, IsTrue};
 ghost use Rattle.fdr.specs.Tasks.{ranges};
+ghost use Rattle.closed.specs.Hints.{AreHintsFor};
 
-use closed::{ClosedTable, Entry, Message, Outcome, Parent};
+use closed::{ClosedTable, Entry, Hint, Message, Outcome, Parent};
 use fdr::FdrTask;
 use openlist::Rank;
 use packed::{Bits, Layout, Plain, StateForm};
@@ -264,6 +265,22 @@ fn are_of<F: StateForm + Drop>(layout: &Layout, messages: &[Message<F>]) -> bool
     messages.iter().all(|message| message.state.is_form(layout))
 }
 
+/// Returns a hint for the state of each message.
+fn hints_for<F: StateForm + Drop>(
+    rt: &impl Abort,
+    alloc: Global,
+    table: &ClosedTable<F>,
+    messages: &[Message<F>],
+) -> Vec<Hint>
+    ensures { AreHintsFor F.hash_input messages.now result.items }
+{
+    let mut hints = Vec::new(alloc);
+    for message in messages {
+        hints.push(table.hint(&message.state)).expect(rt, "memory");
+    }
+    hints
+}
+
 /// Returns whether the messages were taken. Checks their outcomes, which replace others, and that a failure leaves the
 /// table unchanged.
 fn takes<F: StateForm + Drop>(
@@ -277,7 +294,8 @@ fn takes<F: StateForm + Drop>(
 {
     let len = table.len();
     let mut outcomes = vec![in alloc; Outcome::Kept; 2].expect(rt, "memory");
-    match table.improve_all(messages, &mut outcomes) {
+    let hints = hints_for(rt, alloc, table, messages);
+    match table.improve_all(messages, &hints, &mut outcomes) {
         Ok(()) => {
             assert_eq!(rt; outcomes.as_slice(), expected);
             true

@@ -2,10 +2,12 @@
 
 ghost use Rattle.fdr.specs.Tasks.{IsState};
 
-use packed::{Bits, Layout, Plain, StateForm};
+use fdr::FdrTask;
+use packed::{Bits, Layout, Plain, StateForm, TaskMasks};
 use std::alloc::{AllocError, Global};
 use std::process::Abort;
-use test_tasks::states;
+use std::test::Fail;
+use test_tasks::{fact, operator, states, task};
 
 /// Checks the form of one state, which is then made that of another.
 fn keeps_states<F: StateForm + Drop>(
@@ -242,4 +244,58 @@ fn words_of_no_state_of_two_words(rt: HostRuntime) {
         !is_also::<Bits<2>>(&rt, alloc, &ranges, &[0, 0, 0, 0, 1], &[2], &[0]),
         "a bit of a second word"
     );
+}
+
+/// Returns the task of six variables whose bits are in two words, without preconditions: its operators set the first
+/// variable, the last, both, one in each word and one between them, and none. The goal is about both words.
+fn task_in_two_words(alloc: Global) -> Result<Option<FdrTask>, AllocError> {
+    let ranges = [3, 65_536, 65_536, 65_536, 1, 65_536];
+    let mut operators = Vec::new(alloc);
+    operators.push(operator(alloc, &[], &[fact(0, 2)])?)?;
+    operators.push(operator(alloc, &[], &[fact(5, 65_535)])?)?;
+    operators.push(operator(alloc, &[], &[fact(0, 1), fact(5, 7)])?)?;
+    operators.push(operator(
+        alloc,
+        &[],
+        &[fact(5, 0), fact(1, 9), fact(4, 0), fact(3, 65_535)],
+    )?)?;
+    operators.push(operator(alloc, &[], &[])?)?;
+    let goal = [fact(0, 2), fact(3, 6), fact(5, 65_535), fact(2, 5)];
+    task(
+        alloc,
+        &ranges,
+        &[0, 65_535, 5, 6, 0, 65_535],
+        &goal,
+        operators,
+    )
+}
+
+/// Checks the form after each operator, and whether it is one of a goal state, against the task.
+fn follows_operators<F: StateForm + Drop>(
+    rt: &impl Abort,
+    alloc: Global,
+    task: &FdrTask,
+) -> Result<(), AllocError> {
+    let layout = Layout::new(alloc, task)?;
+    let masks = TaskMasks::new(alloc, &layout, task)?;
+    assert!(rt; F::fits(&layout), "states have this form");
+    let form = F::pack(alloc, &layout, task.initial())?;
+    for operator in 0..task.operators().len() {
+        let mut values = Vec::from_slice(alloc, task.initial())?;
+        assert!(rt; task.apply(operator, &mut values), "no precondition");
+        let after = form.after(alloc, &masks, operator)?;
+        assert!(rt; layout.is_state(&values), "a state");
+        assert!(rt; after == F::pack(alloc, &layout, &values)?, "its successor");
+        assert_eq!(rt; after.is_goal(&masks), task.is_goal(&values));
+    }
+    Ok(())
+}
+
+#[test]
+fn operators_and_goals_in_two_words(rt: HostRuntime) -> Result<(), Fail> {
+    let task = task_in_two_words(rt.alloc())?.expect(&rt, "a task");
+    follows_operators::<Plain>(&rt, rt.alloc(), &task)?;
+    follows_operators::<Bits<2>>(&rt, rt.alloc(), &task)?;
+    follows_operators::<Bits<4>>(&rt, rt.alloc(), &task)?;
+    Ok(())
 }

@@ -67,7 +67,7 @@ fn first_violation<R: Threads + Sync>(
 }
 
 /// Returns the first violation of the clauses 4 to 8 of a certificate without tables.
-fn found<R: Threads + Sync + Abort>(
+pub(crate) fn found<R: Threads + Sync + Abort>(
     rt: &R,
     alloc: Global,
     task: &FdrTask,

@@ -13,3 +13,5 @@ mod tables;
 mod tasks;
 #[cfg(test)]
 mod texts;
+#[cfg(test)]
+mod unchanged_states;

@@ -9,13 +9,13 @@ use Rattle.owner_theory.specs.Owners as machine
 use Rattle.owner_theory.specs.Owners.{SearchSpace, Message, Packet, Log, Look, Offer, HandOut, Take, Expand, fits, list_at, put, handed_out, happens, start, start_owner, took, expanded_at}
 use Rattle.owner_theory.specs.Threads.{IsWorker}
 use Rattle.owner_theory.proofs.Joins.{begins, acts, takes, misses, holds_out, pushes}
+use Rattle.owner_theory.proofs.Lists.{get_at as at_read}
 use Rattle.owner.specs.Spaces.{SpaceOf, searched}
 use Rattle.owner.specs.Owned.{OwnerOf, space_of, under, IsMessageTo, Expands, IsExpansion}
 use Rattle.links.specs.declared.ends.Out.{Out}
 use Rattle.links.specs.declared.ends.In.{In}
 use Rattle.worker.specs.Matching.{IsMatchedUp}
 use Rattle.worker.specs.Workers.{WorkerOf, values_in, IsWorking, IsKept, sent_to, received_from}
-use Rattle.owner.proofs.Outcomes.{get_at as at_read}
 
 -- a list with the element at a place written there again
 pub set_again : (bs : List (List Message)) (k : ℕ) → slice_set bs k (list_at bs k) ≡ bs

@@ -1,4 +1,4 @@
-use Rattle.std.proofs.Common.{◌≡◌, ◌∙◌, length, ap, sym, subst}
+use Rattle.std.proofs.Common.{◌≡◌, ◌∙◌, [], length, ap, sym, subst}
 use Rattle.std.specs.List.Sorted.{IsPermutation}
 use Rattle.fdr.specs.Tasks.{FiniteDomainTask}
 use Rattle.cert_value.specs.declared.certificate.Version.TheVariants.{Two}
@@ -24,7 +24,7 @@ returns g c =
     let ok = c.recall.ensures.space in
     let ends = c.recall.ensures.lawful in
     let form = c.recall.ensures.form in
-    let is : c.new.result ≡ record { version = Two; kind = kind_of c.args.kind; bound = lower_bound g.S.Spread.owner c.args.joined.now; columns = c.args.joined.now.space.columns; closed = c.in_ok-closed.closed } =
+    let is : c.new.result ≡ record { version = Two; kind = kind_of c.args.kind; bound = lower_bound g.S.Spread.owner c.args.joined.now; classes = []; columns = c.args.joined.now.space.columns; closed = c.in_ok-closed.closed } =
     rw (c.in_ok-bound.ensures, c.in_ok-columns.ensures, c.tables.ensures, c.columns-2.ensures, c.space-space.ensures) at c.new.ensures in
     let moved : IsPermutation (closed_in c.args.joined.now.owners) c.in_ok-closed.closed =
     rw (c.deref.ensures.value, c.deref-2.ensures.value, c.in_ok-states.ensures.states, c.owners.ensures) at c.in_ok-closed.ensures.permutation in
@@ -36,6 +36,7 @@ returns g c =
     record {
       version = ap (λ (v : CertificateValue). v.version) is;
       kind = ap (λ (v : CertificateValue). v.kind) is;
+      classes = ap (λ (v : CertificateValue). v.classes) is;
       columns = ap (λ (v : CertificateValue). v.columns) is;
       closed = subst (λ (v : CertificateValue). IsPermutation (closed_in c.args.joined.now.owners) v.closed) (sym is) moved;
       rising = made_rising owner end ok ends kind closed c.new.result made;

@@ -1,10 +1,10 @@
 use Rattle.cost.specs.Distances.{Infinite}
-use Rattle.checker.proofs.FirstFound.{all_met, held_bound}
+use Rattle.checker.proofs.FirstFound.{held_bound}
 use Rattle.checker.proofs.fdr_check.check_fdr.Goals as goal
 
 pub returns-in-None-clause-verdict : goal.returns-in-None-clause-verdict
 returns-in-None-clause-verdict g c =
-    (c.bound.ensures, all_met c.args.task.now c.args.certificate.now (rw c.in-None.is at c.in_ok-violation.ensures))
+    (c.bound.ensures, rw c.in-None.is at c.in_ok-violation.ensures)
 
 pub returns-in-None-clause-bound : goal.returns-in-None-clause-bound
 returns-in-None-clause-bound g c bound e =

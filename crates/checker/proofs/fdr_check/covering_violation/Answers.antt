@@ -1,3 +1,4 @@
+use Rattle.std.proofs.Common.{arith}
 use Rattle.checker.proofs.FirstFound.{none_met, met_more, found_more_if}
 use Rattle.checker.proofs.fdr_check.covering_violation.Goals as goal
 
@@ -9,4 +10,4 @@ returns g c =
     (none_met task certificate 6 c.start_violation.result (rw (c.requires.task, c.requires.certificate) at c.start_violation.ensures) c.in_default.not-Some) in
     let seven = met_more task certificate 7 six
     (none_met task certificate 7 c.in_ok-goal.field-0 c.in_ok-goal.ensures c.in_default-2.not-Some) in
-    found_more_if task certificate 8 c.first_successor_violation.result seven (rw (c.requires.task, c.requires.certificate) at c.first_successor_violation.ensures)
+    found_more_if task certificate 8 c.first_successor_violation.result (omega arith) seven (rw (c.requires.task, c.requires.certificate) at c.first_successor_violation.ensures)

@@ -1,11 +1,13 @@
-use Rattle.std.proofs.Common.{◌≡◌, ℕ, ◌<◌, true, List, length, map, sym, ap, ◌∙◌, arith}
+use Rattle.std.proofs.Common.{◌≡◌, ℕ, ◌<◌, Bool, true, not, List, length, map, sym, ap, ◌∙◌, arith}
 use Rattle.std.specs.Prelude.{slice_index}
-use Rattle.fdr.specs.Tasks.{FiniteDomainTask}
+use Rattle.std.proofs.lemmas.List.{length-map}
+use Rattle.fdr.specs.Tasks.{FiniteDomainTask, Operator}
 use Rattle.abstraction_mapping.specs.Views.{abstraction_in}
 use Rattle.cert_value.specs.declared.table.Share.{Share}
 use Rattle.cert_value.specs.Certificates.{Table}
 use Rattle.cert_value.specs.Views as kept
 use Rattle.checker_clauses.specs.Clauses.{has_form, share_of}
+use Rattle.checker_tables.specs.Changes.{leaves_states, changes_of, is_tried}
 use Rattle.checker_tables.specs.TableFaults.{touching_from, spender_of}
 use Rattle.checker_tables.proofs.TableViolations.{goal_is_first, fall_is_first, none_falls}
 use Rattle.checker_tables.proofs.tables.first_fault.Goals as goal
@@ -32,9 +34,10 @@ returns-in-Some-fall c =
     let shares : (o : ℕ) → o < length c.args.task.now.operators → slice_index sums o ≡ share_of t.shares o =
     λ o l. c.in_ok-shares.ensures.shares o (omega (arith, l, c.operator_count.ensures)) ∙ ap (λ (ss : List Share). share_of ss o) c.deref.ensures.value
     in
-    let are : c.deref-2.result.now ≡ map (spender_of (slice_index sums)) (touching_from (abstraction_in a).touches 0 (length c.args.task.now.operators)) =
+    let are : c.deref-2.result.now ≡ map (spender_of (slice_index sums)) (touching_from (is_tried (changes_of c.args.task.now) (abstraction_in a).touches) 0 (length c.args.task.now.operators)) =
     c.deref-2.ensures.value ∙ c.in_ok-spenders.ensures
-    ∙ ap (λ (n : ℕ). map (spender_of (slice_index sums)) (touching_from (abstraction_in a).touches 0 n)) c.operator_count-2.ensures
+    ∙ ap (λ (flags : List Bool). map (spender_of (slice_index sums)) (touching_from (is_tried flags (abstraction_in a).touches) 0 (length flags))) c.requires
+    ∙ ap (λ (n : ℕ). map (spender_of (slice_index sums)) (touching_from (is_tried (changes_of c.args.task.now) (abstraction_in a).touches) 0 n)) (length-map c.args.task.now.operators (λ (op : Operator). not (leaves_states op)))
     in
     fall_is_first a c.args.task.now t (c.abstraction-abstraction.ensures.task ∙ made.0) (c.abstraction-abstraction.ensures.mapping ∙ ap (λ (x : Table). x.mapping) made.1)
     sums shares c.deref-2.result.now are formed (rw c.in_default-goal.is at c.in_ok-goal.ensures)
@@ -52,9 +55,10 @@ returns c =
     let shares : (o : ℕ) → o < length c.args.task.now.operators → slice_index sums o ≡ share_of t.shares o =
     λ o l. c.in_ok-shares.ensures.shares o (omega (arith, l, c.operator_count.ensures)) ∙ ap (λ (ss : List Share). share_of ss o) c.deref.ensures.value
     in
-    let are : c.deref-2.result.now ≡ map (spender_of (slice_index sums)) (touching_from (abstraction_in a).touches 0 (length c.args.task.now.operators)) =
+    let are : c.deref-2.result.now ≡ map (spender_of (slice_index sums)) (touching_from (is_tried (changes_of c.args.task.now) (abstraction_in a).touches) 0 (length c.args.task.now.operators)) =
     c.deref-2.ensures.value ∙ c.in_ok-spenders.ensures
-    ∙ ap (λ (n : ℕ). map (spender_of (slice_index sums)) (touching_from (abstraction_in a).touches 0 n)) c.operator_count-2.ensures
+    ∙ ap (λ (flags : List Bool). map (spender_of (slice_index sums)) (touching_from (is_tried flags (abstraction_in a).touches) 0 (length flags))) c.requires
+    ∙ ap (λ (n : ℕ). map (spender_of (slice_index sums)) (touching_from (is_tried (changes_of c.args.task.now) (abstraction_in a).touches) 0 n)) (length-map c.args.task.now.operators (λ (op : Operator). not (leaves_states op)))
     in
     none_falls a c.args.task.now t (c.abstraction-abstraction.ensures.task ∙ made.0) (c.abstraction-abstraction.ensures.mapping ∙ ap (λ (x : Table). x.mapping) made.1)
     sums shares c.deref-2.result.now are formed (rw c.in_default-goal.is at c.in_ok-goal.ensures)

@@ -1,3 +1,4 @@
+use Rattle.std.proofs.Common.{rules}
 use Rattle.optplan_command.proofs.Refusals.{always, no_number}
 use Rattle.optplan_command.proofs.solve_words.search_options.Goals as goal
 
@@ -16,3 +17,35 @@ returns-in_err-number_for-3-clause-refused c =
 pub returns-in_err-number_for-4-clause-refused : goal.returns-in_err-number_for-4-clause-refused
 returns-in_err-number_for-4-clause-refused c =
     always c.from_residual-in_err-number_for-4.result (λ choices are. no_number _ _ _ _ choices.ring c.in_err-number_for-4.ensures.refused are.ring)
+
+-- each of the options in turn, since they are too many for one search
+pub returns-in-Some-clause-taken : goal.returns-in-Some-clause-taken
+returns-in-Some-clause-taken c =
+    record {
+      workers = search rules;
+      table = search rules;
+      limit = search rules;
+      ring = search rules;
+      steps = search rules;
+      ties = search rules;
+      tables = search rules;
+      stage_ends = search rules;
+      certificate = search rules;
+      reduction = search rules;
+    }
+
+-- each of the options in turn, since they are too many for one search
+pub returns-in-None-clause-taken : goal.returns-in-None-clause-taken
+returns-in-None-clause-taken c =
+    record {
+      workers = search rules;
+      table = search rules;
+      limit = search rules;
+      ring = search rules;
+      steps = search rules;
+      ties = search rules;
+      tables = search rules;
+      stage_ends = search rules;
+      certificate = search rules;
+      reduction = search rules;
+    }

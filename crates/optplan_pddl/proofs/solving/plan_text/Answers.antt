@@ -4,7 +4,7 @@ use Rattle.fdr.specs.Tasks.{FiniteDomainTask}
 use Rattle.sasfile_writer.specs.Plans.{sas_plan_text}
 use Rattle.translate.specs.Translated.{AreOperatorsOf}
 use Rattle.optplan_plans.specs.Steps.{HasStepNames}
-use Rattle.optplan_sas.proofs.PlanTexts.{plan_operators_exist}
+use Rattle.optplan_search.proofs.PlanTexts.{plan_operators_exist}
 use Rattle.optplan_pddl.proofs.Accepting.{plan_for}
 use Rattle.optplan_pddl.proofs.solving.plan_text.Goals as goal
 

@@ -1,6 +1,6 @@
 use Rattle.std.proofs.Common.{Bool, subst}
 use Rattle.std.proofs.lemmas.Result.{err_from_is_err_and}
-use Rattle.optplan_sas.specs.Searches.{EndsAfter, IsRefusedAfter}
+use Rattle.optplan_search.specs.Searches.{EndsAfter, IsRefusedAfter}
 use Rattle.optplan_pddl.specs.Answers.{IsPlanningAnswer}
 use Rattle.optplan_pddl.proofs.StepNames.{names_there}
 use Rattle.optplan_pddl.proofs.Answering.{found_true, answer_for, search_refused}

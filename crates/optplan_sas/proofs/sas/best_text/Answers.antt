@@ -1,5 +1,5 @@
 use Rattle.std.proofs.Common.{subst}
-use Rattle.optplan_sas.specs.Findings.{IsBestSoFar}
+use Rattle.optplan_search.specs.Findings.{IsBestSoFar}
 use Rattle.optplan_sas.specs.SasAnswers.{IsSasPlan}
 use Rattle.optplan_sas.proofs.Texts.{best_is_plan, best_with_text, none_with_text}
 use Rattle.optplan_sas.proofs.sas.best_text.Goals as goal

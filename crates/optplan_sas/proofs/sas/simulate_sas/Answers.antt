@@ -1,4 +1,4 @@
-use Rattle.optplan_sas.specs.Searches.{EndsBySeed}
+use Rattle.optplan_search.specs.Searches.{EndsBySeed}
 use Rattle.optplan_sas.proofs.Answering.{found_true, answered}
 use Rattle.optplan_sas.proofs.sas.simulate_sas.Goals as goal
 

@@ -1,4 +1,4 @@
-use Rattle.optplan_sas.specs.Searches.{EndsAfter}
+use Rattle.optplan_search.specs.Searches.{EndsAfter}
 use Rattle.optplan_sas.proofs.Answering.{found_true, answered}
 use Rattle.optplan_sas.proofs.sas.solve_sas_steps.Goals as goal
 

@@ -8,10 +8,8 @@ use Rattle.optplan_words.proofs.solving.with_search_options.Goals as goal
 
 pub returns : goal.returns
 returns c =
-    let s0 = adds_arg c.args.command c.in_ok-command.command (spec.option (codes "simulate")) c.option-simulate.result c.option-simulate.ensures c.in_ok-command.ensures in
-    let s1 = adds_one_more c.args.command c.in_ok-command.command c.in_ok-command-2.command (spec.option (codes "simulate") ∷ []) (spec.option_or (codes "workers") (codes "4")) c.option_or-workers.result s0 c.option_or-workers.ensures c.in_ok-command-2.ensures in
-    let s2 = adds_one_more c.args.command c.in_ok-command-2.command c.in_ok-command-3.command (spec.option (codes "simulate") ∷ spec.option_or (codes "workers") (codes "4") ∷ []) (spec.option_or (codes "ring") (codes "64")) c.option_or-ring.result s1 c.option_or-ring.ensures c.in_ok-command-3.ensures in
-    let s3 = adds_one_more c.args.command c.in_ok-command-3.command c.in_ok-command-4.command (spec.option (codes "simulate") ∷ spec.option_or (codes "workers") (codes "4") ∷ spec.option_or (codes "ring") (codes "64") ∷ []) (spec.option (codes "tables")) c.option-tables.result s2 c.option-tables.ensures c.in_ok-command-4.ensures in
-    let s4 = adds_one_more c.args.command c.in_ok-command-4.command c.in_ok-command-5.command (spec.option (codes "simulate") ∷ spec.option_or (codes "workers") (codes "4") ∷ spec.option_or (codes "ring") (codes "64") ∷ spec.option (codes "tables") ∷ []) (spec.option (codes "table")) c.option-table.result s3 c.option-table.ensures c.in_ok-command-5.ensures in
-    IfOk-weaker c.with_arg-6.result (AddsRules c.in_ok-command-5.command (rule_of c.option-ties.result ∷ [])) (AddsRules c.args.command spec.search_options)
-    (λ d h. adds_one_more c.args.command c.in_ok-command-5.command d (spec.option (codes "simulate") ∷ spec.option_or (codes "workers") (codes "4") ∷ spec.option_or (codes "ring") (codes "64") ∷ spec.option (codes "tables") ∷ spec.option (codes "table") ∷ []) (spec.option (codes "ties")) c.option-ties.result s4 c.option-ties.ensures h) c.with_arg-6.ensures
+    let s0 = adds_arg c.args.command c.in_ok-command.command (spec.option (codes "tables")) c.option-tables.result c.option-tables.ensures c.in_ok-command.ensures in
+    let s1 = adds_one_more c.args.command c.in_ok-command.command c.in_ok-command-2.command (spec.option (codes "tables") ∷ []) (spec.option (codes "table")) c.option-table.result s0 c.option-table.ensures c.in_ok-command-2.ensures in
+    let s2 = adds_one_more c.args.command c.in_ok-command-2.command c.in_ok-command-3.command (spec.option (codes "tables") ∷ spec.option (codes "table") ∷ []) (spec.option (codes "ties")) c.option-ties.result s1 c.option-ties.ensures c.in_ok-command-3.ensures in
+    IfOk-weaker c.with_arg-4.result (AddsRules c.in_ok-command-3.command (rule_of c.option-reduce.result ∷ [])) (AddsRules c.args.command spec.search_options)
+    (λ d h. adds_one_more c.args.command c.in_ok-command-3.command d (spec.option (codes "tables") ∷ spec.option (codes "table") ∷ spec.option (codes "ties") ∷ []) (spec.option (codes "reduce")) c.option-reduce.result s2 c.option-reduce.ensures h) c.with_arg-4.ensures

@@ -14,6 +14,7 @@ use Rattle.owner.specs.Batches.{pending}
 use Rattle.scp.proofs.Applying.{applied_step}
 use Rattle.owner.proofs.Stepping.{one_more, none_left}
 use Rattle.owner.proofs.Passing.{operator_at, all_operators, nothing_treats, still_nothing}
+use Rattle.owner.proofs.Hinting.{own_hint}
 use Rattle.owner.proofs.Batching.{posted_then, posted_space}
 use Rattle.owner.proofs.batch.place_unknown.Goals as goal
 
@@ -55,6 +56,12 @@ place-requires-clause-small g c =
     (sym c.index-successors-at.is) (c.requires.small c.loop-at.at s c.loop-at-test.true) in
     subst (λ (o : OwnerOf g.row.S.Denot). IsSmallStep o.space.task c.args.next.rank s.operator) (sym c.loop-at.invariant.posted.others) small
 
+pub place-requires-clause-hint : goal.place-requires-clause-hint
+place-requires-clause-hint g c = λ own.
+    own_hint g.F.Hash.hash_input c.args.holdings.now.worker c.args.successors.now c.args.hints.now c.loop-at.at c.index-successors-at.result _
+    c.requires.own_hints c.requires.as_many_hints c.loop-at-test.true c.index-successors-at.is
+    (own ∙ ap (λ (o : OwnerOf g.row.S.Denot). o.worker) c.loop-at.invariant.posted.others)
+
 pub loop-at-preserved-then-known-at : goal.loop-at-preserved-then-known-at
 loop-at-preserved-then-known-at g c =
     let h0 = c.args.holdings.now in
@@ -79,6 +86,7 @@ loop-at-preserved-then-known-at g c =
             before.1,
           );
       batch = inv.batch;
+      hints = inv.hints;
       posted = inv.posted;
       places = inv.places;
     }
@@ -120,6 +128,7 @@ loop-at-preserved g c =
                 (message_to h0.space.task h0.worker c.args.next.index n (get_or os k 0) t') done (before.1 k e t' leads''),
           );
       batch = c.in_ok-place.ensures.batch;
+      hints = c.in_ok-place.ensures.hints;
       posted = posted_then h0 h c.place.new.holdings _ _ _ inv.posted c.place.ensures.posted;
       places = c.place.ensures.places ∙ inv.places;
     }

@@ -1,6 +1,7 @@
 use Rattle.std.proofs.Common.{◌≡◌, List, map, drop, None}
 use Rattle.std.specs.Prelude.{filter_map}
 use Rattle.owner_theory.specs.Owners.{Node, treat_all, successor_by}
+use Rattle.closed.specs.Hints.{AreHintsFor}
 use Rattle.closed.specs.Tables.{fresh}
 use Rattle.owner.specs.Owned.{space_of}
 use Rattle.owner.specs.Successors.{AreKnown}
@@ -22,6 +23,7 @@ invariant-loop-at g l =
           ≡ treat_all space me (pending values l.bound nodes l.fn.holdings l.fn.batch) (filter_map by operators))
           × AreKnown space me l.next.index n (pending values l.bound nodes l.holdings l.batch).nodes operators l.known;
       batch : IsBatch g.F.StateForm.IsForm values g.S.Spread.owner l.holdings l.batch;
+      hints : AreHintsFor g.F.Hash.hash_input l.batch.own.items l.batch.hints.items;
       posted : ArePosted l.fn.holdings l.holdings l.fn.batch.receivers.items l.batch.receivers.items;
       places : l.places ≡ l.fn.places;
     }

@@ -3,14 +3,16 @@ use Rattle.std.specs.Prelude.{filter_map, fold, is_some, slice_set}
 use Rattle.fdr.specs.Tasks.{ranges}
 use Rattle.owner_theory.specs.Owners.{At, Node, improve, marked, mark_node, treat_all, successor_by}
 use Rattle.owner_theory.specs.Worlds.{waiting}
+use Rattle.owner_theory.proofs.Lists.{get_at}
 use Rattle.closed.specs.declared.message.Message.{Message}
+use Rattle.closed.specs.declared.rows.Hint.{Hint}
+use Rattle.closed.specs.Rows.{tag_of}
 use Rattle.closed.specs.Tables.{padded, fresh, message_of}
 use Rattle.owner.specs.declared.successors.Successor.{Successor}
 use Rattle.owner.specs.Owned.{OwnerOf, space_of, under}
-use Rattle.owner.specs.Queues.{IsLeast, h_of}
+use Rattle.owner_reached.specs.Queues.{IsLeast, h_of}
 use Rattle.owner_space.specs.Steps.{IsSmallStep}
-use Rattle.owner.specs.Successors.{AreKnown}
-use Rattle.owner.proofs.Outcomes.{get_at}
+use Rattle.owner.specs.Successors.{AreKnown, AreOwnHints}
 use Rattle.owner.proofs.Passing.{all_by_operator}
 use Rattle.owner.proofs.Batching.{known_marked, taken_pending, empty_pending}
 use Rattle.owner.proofs.expansion.try_to_expand.Goals as goal
@@ -35,6 +37,24 @@ place_unknown-requires-clause-small g c =
     let P = λ (o : ℕ). IsSmallStep c.args.holdings.now.space.task c.args.next.rank o in
     subst (λ (l : List (Successor g.row.F.Denot)). All (λ s. P s.operator) l) (sym c.deref-2.ensures.value)
     (all_by_operator P c.make_successors.new.successors.items c.args.operators.now c.in_ok-make_successors.ensures.operators c.requires.small)
+
+pub place_unknown-requires-clause-own_hints : goal.place_unknown-requires-clause-own_hints
+place_unknown-requires-clause-own_hints g c =
+    let writes = g.F.Hash.hash_input in
+    let me = c.args.holdings.now.worker in
+    subst (λ (l : List Hint). AreOwnHints writes me c.deref-2.result.now l) (sym c.deref-3.ensures.value)
+    (subst (λ (l : List (Successor g.row.F.Denot)). AreOwnHints writes me l c.look_up.new.hints.items)
+    (c.deref.ensures.value ∙ sym c.deref-2.ensures.value) c.in_ok-look_up.ensures.hints)
+
+pub place_unknown-requires-clause-as_many_hints : goal.place_unknown-requires-clause-as_many_hints
+place_unknown-requires-clause-as_many_hints g c =
+    ap length c.deref-3.ensures.value ∙ c.in_ok-look_up.ensures.as_many_hints
+    ∙ ap length (c.deref.ensures.value ∙ sym c.deref-2.ensures.value)
+
+pub place_unknown-requires-clause-hints : goal.place_unknown-requires-clause-hints
+place_unknown-requires-clause-hints g c =
+    ap (map (λ h. h.tag)) c.clear.ensures.hints
+    ∙ ap (λ (l : List (Message g.row.F.Denot)). map (λ m. tag_of (g.F.Hash.hash_input m.state)) l) (sym c.clear.ensures.own)
 
 pub expand_next-requires-clause-some : goal.expand_next-requires-clause-some
 expand_next-requires-clause-some g c = (
@@ -109,14 +129,14 @@ returns-clause-treated g c = λ n at.
     let nodes = slice_set h0.nodes i (marked n) in
     let ss = c.deref-2.result.now in
     let os : List ℕ = map (λ (s : Successor g.row.F.Denot). s.operator) ss in
-    let found = subst (λ (l : List Bool). AreKnown space me i x h0.nodes os l) (sym c.deref-3.ensures.value)
+    let found = subst (λ (l : List Bool). AreKnown space me i x h0.nodes os l) (sym c.deref-4.ensures.value)
     (subst (λ (l : List (Successor g.row.F.Denot)). AreKnown space me i x h0.nodes (map (λ s. s.operator) l) c.look_up.new.known.items)
     (c.deref.ensures.value ∙ sym c.deref-2.ensures.value)
     (subst (λ (s : List ℕ). AreKnown space me i (fresh s c.args.next.rank None) h0.nodes (map (λ y. y.operator) c.deref.result.now) c.look_up.new.known.items)
     c.state-2.ensures c.in_ok-look_up.ensures.known)) in
     let known = subst (λ (l : List (Message g.row.F.Denot)).
-    AreKnown space me i x (fold improve nodes (map (message_of (values (ranges h0.space.task))) l)) os c.deref-3.result.now) (sym c.clear.ensures.own)
-    (known_marked space me i x n h0.nodes i os c.deref-3.result.now at found) in
+    AreKnown space me i x (fold improve nodes (map (message_of (values (ranges h0.space.task))) l)) os c.deref-4.result.now) (sym c.clear.ensures.own)
+    (known_marked space me i x n h0.nodes i os c.deref-4.result.now at found) in
     taken_pending values h0 c.place_unknown.new.holdings c.expand_next.new.self c.place_unknown.new.batch _ _ c.place_unknown.ensures.posted bound i n _ _ (new_is g c n at)
     ∙ (c.in_ok-place_unknown.ensures.treated nodes known
     ∙ (ap (λ o. treat_all space me o (filter_map by os))

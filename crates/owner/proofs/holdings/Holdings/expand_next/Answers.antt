@@ -5,8 +5,10 @@ use Rattle.fdr.specs.Tasks.{ranges}
 use Rattle.owner_theory.specs.Owners.{Node, At, marked, improve}
 use Rattle.owner_space.specs.Spaces.{SpaceOf}
 use Rattle.closed.specs.declared.message.Message.{Message}
+use Rattle.closed.specs.declared.rows.Hint.{Hint}
+use Rattle.closed.specs.Hints.{AreHintsFor}
 use Rattle.closed.specs.Tables.{message_of, arrival, reached}
-use Rattle.owner.specs.Queues.{ReachedOf, IsLeast, h_of}
+use Rattle.owner_reached.specs.Queues.{ReachedOf, IsLeast, h_of}
 use Rattle.owner.specs.Owned.{OwnerOf, space_of, max_total, IsMessageTo}
 use Rattle.owner.specs.Held.{IsOwner}
 use Rattle.owner.specs.Batches.{IsBatch}
@@ -24,17 +26,22 @@ expand_least-requires-clause-forms g c =
     subst (λ (l : List (Message g.row.F.Denot)). All (λ m. g.F.StateForm.IsForm (ranges c.self.inside.reached.space.task) m.state) l)
     (sym c.deref.ensures.value) b.forms
 
+pub expand_least-requires-clause-hints : goal.expand_least-requires-clause-hints
+expand_least-requires-clause-hints g c =
+    subst (λ (l : List (Message g.row.F.Denot)). AreHintsFor g.F.Hash.hash_input l c.deref-2.result.now) (sym c.deref.ensures.value)
+    (subst (λ (l : List Hint). AreHintsFor g.F.Hash.hash_input c.args.batch.now.own.items l) (sym c.deref-2.ensures.value) c.requires.hints)
+
 pub expand_least-requires-clause-fs : goal.expand_least-requires-clause-fs
 expand_least-requires-clause-fs g c =
     let b = subst (λ (x : OwnerOf g.row.S.Denot). IsBatch g.F.StateForm.IsForm g.F.StateForm.values g.S.Spread.owner x c.args.batch.now) (sym c.self.view_is) c.requires.batch in
     ap (λ (l : List (Message g.row.F.Denot)). map (λ m. Finite m.rank.cost +ᵈ h_of c.self.inside.reached.space
     (g.F.StateForm.values (ranges c.self.inside.reached.space.task) m.state)) l) c.deref.ensures.value
-    ∙ (b.fs ∙ ap (map Finite) (sym c.deref-2.ensures.value))
+    ∙ (b.fs ∙ ap (map Finite) (sym c.deref-3.ensures.value))
 
 pub expand_least-requires-clause-bound : goal.expand_least-requires-clause-bound
 expand_least-requires-clause-bound g c =
     let b = subst (λ (x : OwnerOf g.row.S.Denot). IsBatch g.F.StateForm.IsForm g.F.StateForm.values g.S.Spread.owner x c.args.batch.now) (sym c.self.view_is) c.requires.batch in
-    subst (λ (l : List ℕ). All (λ f. f ≤ 2 ^ 63) l) (sym c.deref-2.ensures.value) b.bounded
+    subst (λ (l : List ℕ). All (λ f. f ≤ 2 ^ 63) l) (sym c.deref-3.ensures.value) b.bounded
 
 pub invariant_of-self : goal.invariant_of-self
 invariant_of-self g c =

@@ -1,5 +1,5 @@
 use Rattle.std.proofs.Common.{sym, ◌∙◌, subst}
-use Rattle.owner.specs.Queues.{IsLeast, HasNoneOpen, h_of}
+use Rattle.owner_reached.specs.Queues.{IsLeast, HasNoneOpen, h_of}
 use Rattle.owner.specs.Owned.{OwnerOf, space_of}
 use Rattle.owner.proofs.Choosing.{least_open_none, least_open_first}
 use Rattle.owner.proofs.holdings.Holdings.least_open.Goals as goal

@@ -4,9 +4,9 @@ use Rattle.closed.specs.Tables.{outcome_of, fresh}
 use Rattle.owner.specs.Owned.{OwnerOf}
 use Rattle.owner.proofs.holdings.Holdings.look_hinted.Goals as goal
 
-pub look_hinted-requires : goal.look_hinted-requires
-look_hinted-requires g c =
-    subst (λ (o : OwnerOf g.row.S.Denot). g.F.StateForm.IsForm (ranges o.space.task) c.args.form.now) (sym c.self.view_is) c.requires
+pub look_hinted-requires-clause-form : goal.look_hinted-requires-clause-form
+look_hinted-requires-clause-form g c =
+    subst (λ (o : OwnerOf g.row.S.Denot). g.F.StateForm.IsForm (ranges o.space.task) c.args.form.now) (sym c.self.view_is) c.requires.form
 
 pub returns : goal.returns
 returns g c = λ parent.

@@ -1,6 +1,6 @@
 use Rattle.std.proofs.Common.{sym, ap, ◌∙◌, subst}
 use Rattle.cost.specs.Distances.{is_at_most}
-use Rattle.owner.specs.Queues.{IsLeast, HasNoneOpen, h_of}
+use Rattle.owner_reached.specs.Queues.{IsLeast, HasNoneOpen, h_of}
 use Rattle.owner.specs.Owned.{OwnerOf, space_of, under}
 use Rattle.owner.proofs.Choosing.{no_open_none, no_open_past}
 use Rattle.owner.proofs.holdings.Holdings.next.Goals as goal

@@ -4,7 +4,7 @@ use Rattle.fdr.specs.Tasks.{FiniteDomainTask, ranges, IsState}
 use Rattle.owner_theory.specs.Owners.{start_owner}
 use Rattle.closed.specs.Tables.{padded}
 use Rattle.owner_space.specs.Spaces.{searched}
-use Rattle.owner.specs.Queues.{ReachedOf}
+use Rattle.owner_reached.specs.Queues.{ReachedOf}
 use Rattle.owner.specs.Held.{IsOwner}
 use Rattle.owner.specs.Outboxes.{shown}
 use Rattle.owner.proofs.Owning.{boxes_in, start_kept, first_kept, none_kept, started_own, started_none}

@@ -5,8 +5,8 @@ use Rattle.owner_theory.specs.Owners.{took}
 use Rattle.closed.specs.Tables.{padded}
 use Rattle.owner_space.specs.Spaces.{SpaceOf}
 use Rattle.owner.specs.Owned.{OwnerOf, space_of, under, IsMessageTo}
-use Rattle.owner.specs.Queues.{ReachedOf, message_at}
-use Rattle.owner.specs.Held.{IsOwner}
+use Rattle.owner_reached.specs.Queues.{ReachedOf}
+use Rattle.owner.specs.Held.{IsOwner, message_at}
 use Rattle.owner.proofs.Owning.{boxes_in, taken_kept, taken_is}
 use Rattle.owner.proofs.holdings.Holdings.take.Goals as goal
 

@@ -5,6 +5,7 @@ use Rattle.std.proofs.lemmas.List.Elements.{All-filter}
 use Rattle.fdr.specs.Tasks.{FiniteDomainTask, ranges, IsState, applies_at}
 use Rattle.fdr_successors.specs.Applicable.{applicable_operators}
 use Rattle.owner_theory.specs.Worlds.{no_open}
+use Rattle.owner_theory.proofs.Lists.{get_at}
 use Rattle.owner.specs.declared.fault.OwnerFault.TheVariants.{OutOfMemory, TotalTooLarge}
 use Rattle.owner_space.specs.Spaces.{SpaceOf}
 use Rattle.owner.specs.Owned.{OwnerOf, space_of, under, IsRefusal, Expands}
@@ -13,7 +14,6 @@ use Rattle.owner_space.specs.Steps.{IsSmallStep}
 use Rattle.owner_space.specs.Late.{is_late, all_are_late}
 use Rattle.owner.specs.Held.{places_in}
 use Rattle.owner.proofs.Choosing.{is_next, no_open_some}
-use Rattle.owner.proofs.Outcomes.{get_at}
 use Rattle.owner.proofs.Expanding.{is_large, expands_alone, least_index, least_cost, least_steps, least_state, all_apply, all_small, large_successor, expands, refused_memory}
 use Rattle.owner.proofs.owner.Owner.expand.Goals as goal
 

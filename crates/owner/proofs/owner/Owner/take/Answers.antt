@@ -4,7 +4,7 @@ use Rattle.owner_theory.specs.Owners.{took}
 use Rattle.closed.specs.Tables.{message_of}
 use Rattle.owner_space.specs.Spaces.{SpaceOf}
 use Rattle.owner.specs.Owned.{OwnerOf, space_of, under}
-use Rattle.owner.specs.Queues.{message_at}
+use Rattle.owner.specs.Held.{message_at}
 use Rattle.owner.proofs.owner.Owner.take.Goals as goal
 use Rattle.owner.proofs.owner.Owner.take.Goals.{in-Ok, in-Err}
 

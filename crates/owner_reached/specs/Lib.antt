@@ -1,0 +1,2 @@
+pub mod TieOrders
+pub mod Queues

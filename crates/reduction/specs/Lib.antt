@@ -1,0 +1,11 @@
+pub mod Facts
+pub mod Asked
+pub mod Rows
+pub mod Retained
+pub mod Images
+pub mod Groups
+pub mod Adding
+pub mod Represented
+pub mod Reductions
+pub mod Waiting
+pub mod Closing
