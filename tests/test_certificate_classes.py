@@ -111,7 +111,7 @@ class Checks(ProgramTest):
             self.assertEqual(check_sas(LAMP_SAS.encode(), cert.encode()), answer, edits)
             self.is_answered(checked_sas(LAMP_SAS, cert), answer, edits=edits)
 
-    def test_certificate_damaged(self):
+    def test_damaged(self):
         """Damaged certificates: the answers are those of the second reading, and none is accepted above 2."""
         answers = set()
         for edits in ("", WITH_TABLE, "5=3 0 0 1;3=bound 1;8=closed 1;10="):
@@ -183,7 +183,7 @@ class Solves(ProgramTest):
         names = [lines[place + 1] for place, line in enumerate(lines) if line == "begin_operator"]
         return [names.index(line[1:-1].decode()) for line in plan.splitlines() if line.startswith(b"(")]
 
-    def test_program_progress(self):
+    def test_progress(self):
         err = run("solve", "d", "p", "--workers", "1", "--progress", files={"d": LAMP_DOMAIN, "p": ROAD_PROBLEM}).err
         self.assertIn(b"optplan: left out 1 variables, 2 operators\n", err)
         err = run("solve", "d", "p", "--workers", "1", "--progress", "--reduce", "off", files={"d": LAMP_DOMAIN, "p": ROAD_PROBLEM}).err
@@ -204,7 +204,7 @@ class Solves(ProgramTest):
             self.assertTrue(outcome.files["c"].startswith(b"optplan-cert 2\n"))
             self.is_answered(checked(LAMP_DOMAIN, ROAD_PROBLEM, outcome.files["c"]), "accepted 2")
 
-    def test_program_examples(self):
+    def test_examples(self):
         """Examples in which much is there that no goal needs; `test_program_examples.py` has their costs."""
         for name in ("fleet", "bench", "shop"):
             with self.subTest(name=name):
