@@ -1,6 +1,6 @@
 #!/usr/bin/env python3
-"""Gives the crates of the work tree the libraries that `rt ci` has stored on this machine of the very same files, so that
-`rt check` in a crate need not prove what lies below it. No verdict of the gate rests on it.
+"""Copies the libraries that `rt ci` has stored on this machine of the very same files into the crates of the work tree, so
+that `rt check` in a crate need not prove what lies below it. No verdict of the gate rests on it.
 
 usage: .ci/take.py    prints how many libraries were taken, and the crates of which none is stored
 """
