@@ -39,19 +39,20 @@ def limiting(memory, processors):
     return limit
 
 
-def run(*words, files=None, memory=None, processors=None, environment=None, descriptors=()):
+def run(*words, files=None, memory=None, processors=None, environment=None, descriptors=(), full=()):
     """Returns the outcome of the program with these arguments, in a folder with these files: texts or bytes by their
     names. Its address space has at most `memory` bytes and it uses at most `processors` processors, if given.
-    `environment` is added to the environment's variables, and these descriptors are inherited."""
+    `environment` is added to the environment's variables, and these descriptors are inherited. `full` names the streams,
+    of `stdout` and `stderr`, to which nothing can be written."""
     given = {name: as_bytes(text) for name, text in (files or {}).items()}
-    with tempfile.TemporaryDirectory(prefix="optplan-test-") as folder:
+    with tempfile.TemporaryDirectory(prefix="optplan-test-") as folder, open("/dev/full", "wb") as device:
         for name, text in given.items():
             with open(os.path.join(folder, name), "wb") as file:
                 file.write(text)
-        ended = subprocess.run([os.environ["OPTPLAN"], *words], cwd=folder, stdin=subprocess.DEVNULL, stdout=subprocess.PIPE,
-                               stderr=subprocess.PIPE, timeout=SECONDS_OF_A_RUN, check=False, preexec_fn=limiting(memory, processors),
-                               env=os.environ | (environment or {}), pass_fds=descriptors)
-        return Outcome(ended.stdout, ended.stderr, ended.returncode, written(folder, given))
+        streams = {name: device if name in full else subprocess.PIPE for name in ("stdout", "stderr")}
+        ended = subprocess.run([os.environ["OPTPLAN"], *words], cwd=folder, stdin=subprocess.DEVNULL, timeout=SECONDS_OF_A_RUN, check=False,
+                               preexec_fn=limiting(memory, processors), env=os.environ | (environment or {}), pass_fds=descriptors, **streams)
+        return Outcome(ended.stdout or b"", ended.stderr or b"", ended.returncode, written(folder, given))
 
 
 def written(folder, given):
@@ -99,6 +100,16 @@ def wanted(answer):
     if line.startswith(b"F"):
         return Outcome(err=b"optplan: " + line, status=1)
     return Outcome(out=line, status=0 if line.startswith((b"valid ", b"accepted ")) else 3)
+
+
+def unread(file):
+    """Returns the outcome if this file cannot be read: `domain`, `problem`, `plan`, `sas` or `cert`."""
+    return Outcome(err=f"optplan: F70 CannotRead {file}\n".encode(), status=7)
+
+
+def unwritten(file):
+    """Returns the outcome if this file cannot be written: `plan`, `cert` or `output`."""
+    return Outcome(err=f"optplan: F71 CannotWrite {file}\n".encode(), status=7)
 
 
 class ProgramTest(unittest.TestCase):

@@ -5,13 +5,14 @@ before the C library (`refusing.c`, built by `cc`) selects the call, so each cal
     refusals.py OPTPLAN
 
 Refuses each call of each kind in turn, in a run of its own, under each command on small examples, until a run makes no
-further call of the kind. After a refused growth of memory the answer is unchanged or `optplan: out of memory`; after a
-refused thread it is unchanged; a file that cannot be opened, read or written is named by its fault. Wrong runs are
-printed, and the last line is the number of runs with a refused call and of those that ended wrongly. The status is 1 if
-one did. Takes some minutes.
+further call of the kind. After a refused growth of memory the answer is that worked out by hand or `optplan: out of
+memory`; after a refused thread it is that worked out by hand; a file that cannot be opened, read or written is named by
+its fault. Wrong runs are printed, and the last line is the number of runs with a refused call and of those that ended
+wrongly. The status is 1 if one did. Takes some minutes.
 """
 
 import atexit
+import dataclasses
 import functools
 import os
 import re
@@ -73,32 +74,45 @@ def files_of(task, *names):
 PLANNING = (("d", "domain.pddl"), ("p", "problem.pddl"))
 
 
+@dataclasses.dataclass(frozen=True)
+class End:
+    """What answers have in common that name two cheapest plans: the last line of standard output, the exit status, and
+    the names of the files that are written. Nothing is on standard error."""
+
+    line: bytes
+    status: int = 0
+    files: list = dataclasses.field(default_factory=list)
+
+    def is_of(self, outcome):
+        """Returns whether an outcome ends like this."""
+        return (outcome.out.splitlines()[-1:], outcome.err, outcome.status, sorted(outcome.files)) == ([self.line], b"", self.status, self.files)
+
+
 def commands():
-    """Yields the arguments of each command with the files that they name: a task with a plan and one without, solved by
-    random steps and with threads."""
-    for files in (files_of("road", *PLANNING), files_of("grip", *PLANNING), {"d": ROAD_DOMAIN, "p": ROAD_TO_NOWHERE}):
+    """Yields the arguments of each command, the files that they name, and the end of the answer: tasks with a plan and one
+    without, solved by random steps and with threads."""
+    plan_and_cert = ("--plan", "plan", "--cert", "cert")
+    for files, *answer in ((files_of("road", *PLANNING), b"; cost = 2 (unit cost)", 0, ["cert", "plan"]),
+                           (files_of("grip", *PLANNING), b"; cost = 7 (unit cost)", 0, ["cert", "plan"]),
+                           ({"d": ROAD_DOMAIN, "p": ROAD_TO_NOWHERE}, b"unsolvable", 4, ["cert"])):
         for schedule in (("--simulate", "1"), ("--workers", "2")):
-            yield ("solve", "d", "p", *schedule, "--plan", "plan", "--cert", "cert"), files
-    yield ("solve-sas", "s", "--workers", "3", "--plan", "plan", "--cert", "cert"), files_of("road", ("s", "task.sas"))
-    yield ("check-sas", "s", "c"), files_of("road", ("s", "task.sas"), ("c", "table.cert"))
-    yield ("translate", "d", "p"), files_of("grip", *PLANNING)
-    for task in ("road", "grip"):
+            yield ("solve", "d", "p", *schedule, *plan_and_cert), files, End(*answer)
+    files = files_of("road", ("s", "task.sas"), ("c", "table.cert"))
+    yield ("solve-sas", "s", "--workers", "3", *plan_and_cert), files, End(b"; cost = 2 (unit cost)", 0, ["cert", "plan"])
+    yield ("check-sas", "s", "c"), files, End(b"accepted 2")
+    yield ("translate", "d", "p"), files_of("grip", *PLANNING), End(b"0")
+    for task, cost in (("road", 2), ("grip", 7)):
         files = files_of(task, *PLANNING)
         solved = run("solve", "d", "p", "--simulate", "1", "--plan", "l", "--cert", "c", files=files)
-        yield ("validate", "d", "p", "l"), files | {"l": solved.files["l"]}
-        yield ("check", "d", "p", "c"), files | {"c": solved.files["c"]}
-    yield ("migrate-cert", "c"), {"c": solved.files["c"]}
+        yield ("validate", "d", "p", "l"), files | {"l": solved.files["l"]}, End(b"valid %d" % cost)
+        yield ("check", "d", "p", "c"), files | {"c": solved.files["c"]}, End(b"accepted %d" % cost)
+    yield ("migrate-cert", "c"), {"c": solved.files["c"]}, End(b"end")
 
 
-def last_lines(outcome):
-    """Returns what two answers have in common if they name two cheapest plans."""
-    return outcome.out.splitlines()[-1:], outcome.err, outcome.status, sorted(outcome.files)
-
-
-def is_right(kind, plain, outcome):
-    """Returns whether the run in which a call of this kind was refused ended as it should; `plain` is the outcome
+def is_right(kind, end, outcome):
+    """Returns whether the run in which a call of this kind was refused ended as it should; `end` is that of the answer
     without a refusal."""
-    if last_lines(outcome) == last_lines(plain):
+    if end.is_of(outcome):
         return True
     if kind == "growth":
         return outcome == OUT_OF_MEMORY
@@ -113,13 +127,12 @@ def main(words):
         return 2
     os.environ["OPTPLAN"] = os.path.abspath(words[0])
     tried = wrong = 0
-    for command, files in commands():
-        plain = run(*command, files=files)
+    for command, files, end in commands():
         for kind in KINDS:
             count = 0
             for number, outcome in refused_in_turn(kind, command, files):
                 count += 1
-                if not is_right(kind, plain, outcome):
+                if not is_right(kind, end, outcome):
                     wrong += 1
                     print(f"{' '.join(command)}: {kind} {number}: {outcome}")
             tried += count

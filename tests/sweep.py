@@ -17,10 +17,13 @@ import sys
 from damages import damaged_bytes, damaged_lines, tokens
 from program import checked, checked_sas, example, validated, wanted
 from second_reading import certificate_fault, check_sas
+from test_search_limits import SMALL_TASKS
 
 FINITE_DOMAIN = (("road", "closed.cert"), ("road", "table.cert"), ("road", "classes.cert"))
 PLANNING_CERTIFICATES = (("road", "planning.cert"), ("lamp", "closed.cert"), ("lamp", "tables.cert"), ("drive", "classes.cert"))
-PLANNING = ("blocks", "door", "drive", "grip", "gripper", "lamp", "logistics", "noop", "road")
+# Examples with the costs of their plans. In `logistics` two trucks drive three times and a plane flies twice, and a package is
+# loaded and unloaded three times each.
+PLANNING = SMALL_TASKS | {"logistics": 11}
 VERDICT = re.compile(rb"(valid \d+|no such action \d+|not applicable \d+ \(.+\)|goal open \(.+\))\n")
 CLAUSE = re.compile(rb"(accepted (\d+|unsolvable)|rejected C[1-8]( [^\n]*)?)\n")
 FAULT = re.compile(rb"optplan: F(\d+) [A-Za-z]+( [^\n ]+)?( (domain|problem|plan|cert)( (\d+))?)?\n")
@@ -64,13 +67,14 @@ class Sweep:
     def damage_planning(self, name):
         """Tries damages of a domain, a problem and a plan."""
         texts = [example(name, it).encode() for it in ("domain.pddl", "problem.pddl", "plan.txt")]
-        first = validated(*texts)
+        first, valid = validated(*texts), wanted(f"valid {PLANNING[name]}")
+        self.expect(first == valid, texts, first)
         for place, text in enumerate(texts):
             same = tokens(text)
             for damaged in self.damages(text):
                 given = [*texts[:place], damaged, *texts[place + 1:]]
                 outcome = validated(*given)
-                self.expect(outcome == first if tokens(damaged) == same else is_answer(outcome, given), given, outcome)
+                self.expect(outcome == valid if tokens(damaged) == same else is_answer(outcome, given), given, outcome)
         return self
 
 

@@ -5,7 +5,7 @@ clauses.
 import itertools
 
 from damages import damaged_lines
-from program import Outcome, ProgramTest, checked, checked_sas, example, run
+from program import Outcome, ProgramTest, checked, checked_sas, example, run, unread
 from second_reading import check_sas, certificate_fault
 from test_certificate_sas import FiniteDomainTest, edited
 
@@ -105,6 +105,7 @@ class Migration(ProgramTest):
         (WITH_TABLE, "", "accepted 2"),
         (WITH_TABLE, "3=bound 3", "rejected C6"),
         (WITH_TABLE, "15=shares 2 0 1 1 2", "rejected C3 column 0 op 1"),
+        (WITH_TABLE, "13=column 2;16=values 3 2 1 0|table 1 0|shares 2 0 1 1 1|values 3 2 1 0", "rejected C3 column 0 op 0"),
         (WITH_TABLE, "14=table 1 1", "rejected C4 column 0 table 0"),
         (WITH_TABLE, "16=values 3 2 1 1", "rejected C4 column 0 table 0 state 2"),
         (WITH_TABLE, "16=values 3 3 1 0", "rejected C4 column 0 table 0 state 0 op 0"),
@@ -153,7 +154,7 @@ class Migration(ProgramTest):
 
     def test_faults(self):
         self.is_answered(migrated("optplan-cert 0\n"), "F50 Header cert")
-        self.assertEqual(run("migrate-cert", "none"), Outcome(err=b"optplan: F70 CannotRead cert\n", status=7))
+        self.assertEqual(run("migrate-cert", "none"), unread("cert"))
         self.assertEqual(run("migrate-cert").status, 2)
 
 

@@ -117,6 +117,9 @@ class Road(PlanningTest):
          "column 1|table 1 0|shares 0|values 3 0 0 0|closed 0|end", "accepted 2"),
         (f"optplan-cert 1|pddl|bound 2|{ATOMS}|{PLACES}|columns 1|column 1|table 1 1|shares 2 0 1 1 1|values 3 2 1 0|closed 0|end",
          "rejected C4 column 0 table 0"),
+        # The same costs twice in one column.
+        (f"optplan-cert 1|pddl|bound 2|{ATOMS}|{PLACES}|columns 1|column 2|table 1 0|shares 2 0 1 1 1|values 3 2 1 0|"
+         "table 1 0|shares 2 0 1 1 1|values 3 2 1 0|closed 0|end", "rejected C3 column 0 op 0"),
         # Atoms: one is missing, one is listed twice, one is not of the task, one is in upper case.
         (f"optplan-cert 1|pddl|bound 2|atoms 4|at a|at b|road a b|road b c|vars 1|0 2 0 1|{CLOSED}", "rejected C1 atom (at c)"),
         (f"optplan-cert 1|pddl|bound 2|atoms 4|at a|at c|road a b|road b c|vars 1|0 2 0 1|{CLOSED}", "rejected C1 atom (at b)"),
@@ -183,6 +186,11 @@ class Road(PlanningTest):
         for problem, certificate, answer in self.PROBLEM_ROWS:
             self.answers(ROAD_DOMAIN, problem, certificate, answer)
         self.answers("(define (domain x", ROAD_PROBLEM, "optplan-cert 2", "F2 Unclosed domain 8")
+
+    def test_fronts(self):
+        cert = example("road", "planning.cert")
+        for end in range(len(cert)):
+            self.is_answered(checked(ROAD_DOMAIN, ROAD_PROBLEM, cert[:end]), "F53 Truncated cert", end=end)
 
 
 class SmallTasks(PlanningTest):

@@ -3,7 +3,7 @@ hand."""
 
 import dataclasses
 
-from program import Outcome, ProgramTest, checked, checked_sas, run, wanted
+from program import Outcome, ProgramTest, checked, checked_sas, example, run, unread, unwritten, wanted
 from texts import (DOOR_DOMAIN, DRIVE_DOMAIN, DRIVE_PROBLEM, GRIP_DOMAIN, GRIP_PROBLEM, HALF_A_ROAD, LOCKED_DOOR,
                    OPEN_DOOR, ROAD_CERTIFICATE, ROAD_DOMAIN, ROAD_PROBLEM, ROAD_PROBLEM_AT_ITS_GOAL, ROAD_SAS,
                    ROAD_TO_BE_MADE)
@@ -168,18 +168,8 @@ class CommandLine(ProgramTest):
                 self.assertIn(text, outcome.err.decode())
 
 
-def unread(file):
-    """Returns the outcome if this file cannot be read."""
-    return Outcome(err=f"optplan: F70 CannotRead {file}\n".encode(), status=7)
-
-
-def unwritten(file):
-    """Returns the outcome if this file cannot be written."""
-    return Outcome(err=f"optplan: F71 CannotWrite {file}\n".encode(), status=7)
-
-
 class Files(ProgramTest):
-    """Missing files, and files in a missing folder."""
+    """Missing files, files in a missing folder, and files that cannot be read or written."""
 
     # The names of the three files, and the expected outcome.
     MISSING_ROWS = [
@@ -227,6 +217,23 @@ class Files(ProgramTest):
         (["solve", "d", "p", "--simulate", "1", "--cert", "gone/c"], unwritten("cert")),
     ]
 
+    # Each command with its files, and the texts of these.
+    COMMANDS = [
+        ("validate", "d", "p", "l"),
+        ("check", "d", "p", "c"),
+        ("optimal", "d", "p", "l", "c"),
+        ("translate", "d", "p"),
+        ("solve", "d", "p"),
+        ("check-sas", "s", "k"),
+        ("solve-sas", "s"),
+        ("migrate-cert", "c"),
+    ]
+    FILES = ROAD_FILES | ROAD_SAS_FILES | {"l": ROAD_STEPS, "c": example("road", "planning.cert"), "k": ROAD_CERTIFICATE}
+
+    # What a fault calls each file, and the fault of a command's first file if its text is `)`.
+    FILE_WORDS = {"d": "domain", "p": "problem", "l": "plan", "s": "sas", "c": "cert", "k": "cert"}
+    FAULTS = {"d": "F3 StrayClose domain 0", "s": "F41 Expected sas 1", "c": "F53 Truncated cert"}
+
     def test_files_that_are_not_there(self):
         files = {"domain": ROAD_DOMAIN, "problem": ROAD_PROBLEM, "plan": ROAD_STEPS}
         for names, outcome in self.MISSING_ROWS:
@@ -244,11 +251,48 @@ class Files(ProgramTest):
             with self.subTest(words=words):
                 self.assertEqual(run(*words, files=ROAD_FILES), outcome)
 
+    def test_files_that_cannot_be_read(self):
+        # A folder, and a file whose first bytes cannot be read.
+        for command, *letters in self.COMMANDS:
+            for number, letter in enumerate(letters):
+                for name in (".", "/proc/self/mem"):
+                    words = (command, *letters[:number], name, *letters[number + 1:])
+                    with self.subTest(words=words):
+                        self.assertEqual(run(*words, files=self.FILES), unread(self.FILE_WORDS[letter]))
+
+    def test_files_that_cannot_be_written(self):
+        # A file in a missing folder, a folder, and a device that is full.
+        for task in (("solve", "d", "p"), ("solve-sas", "s")):
+            for schedule in (("--simulate", "1"), ("--workers", "2")):
+                for file in ("plan", "cert"):
+                    for name in ("gone/f", ".", "/dev/full"):
+                        words = (*task, *schedule, f"--{file}", name)
+                        with self.subTest(words=words):
+                            self.assertEqual(run(*words, files=self.FILES), unwritten(file))
+
+    def test_standard_output_that_cannot_be_written(self):
+        for words in self.COMMANDS:
+            with self.subTest(words=words):
+                self.assertEqual(run(*words, files=self.FILES).err, b"")
+                self.assertEqual(run(*words, files=self.FILES, full=("stdout",)), unwritten("output"))
+
+    def test_standard_error_that_cannot_be_written(self):
+        # The status is that of the fault all the same.
+        for command, letter, *others in self.COMMANDS:
+            files = self.FILES | {letter: ")"}
+            with self.subTest(command=command):
+                self.is_answered(run(command, letter, *others, files=files), self.FAULTS[letter])
+                self.assertEqual(run(command, letter, *others, files=files, full=("stderr",)), Outcome(status=1))
+                self.assertEqual(run(command, "gone", *others, files=files, full=("stderr",)), Outcome(status=7))
+                self.assertEqual(run(command, letter, *others, files=self.FILES, full=("stdout", "stderr")), Outcome(status=7))
+
     def test_the_certificate_is_written_first(self):
         outcome = run("solve", "d", "p", "--simulate", "1", "--plan", "gone/l", "--cert", "c", files=ROAD_FILES)
         self.assertEqual((outcome.out, outcome.err, outcome.status), (b"", unwritten("plan").err, 7))
         self.assertEqual([*outcome.files], ["c"])
         self.assertEqual(run("solve", "d", "p", "--simulate", "1", "--plan", "l", "--cert", "gone/c", files=ROAD_FILES), unwritten("cert"))
+        outcome = run("solve", "d", "p", "--simulate", "1", "--plan", "l", "--cert", "c", files=ROAD_FILES, full=("stdout",))
+        self.assertEqual((outcome.err, outcome.status, sorted(outcome.files)), (unwritten("output").err, 7, ["c", "l"]))
 
 
 def with_line(text, number, line):
@@ -339,6 +383,9 @@ class Answers(SolverTest):
         (["--simulate", "1", "--steps", "1", "--plan", "l"], LIMIT),
         (["--simulate", "1", "--time", "0"], Answer(ROAD_PLAN)),
         (["--simulate", "9223372036854775807", "--table", "1"], Answer(ROAD_PLAN)),
+        # With threads. The number of steps limits simulations alone.
+        (["--steps", "0"], Answer(ROAD_PLAN)),
+        (["--workers", "1", "--limit", "1", "--cert", "c"], Answer("limit 2\n", 5, ("c",))),
     ]
 
     def test_answers(self):
@@ -387,6 +434,8 @@ class SmallTasks(SolverTest):
         "64": [(DOOR_DOMAIN, LOCKED_DOOR, UNSOLVABLE)],
     }
 
+    SCHEDULES = [("--simulate", "1"), *(("--workers", number) for number in ("1", "2", "4", "64"))]
+
     # A text of the task, another in its place, and the outcome.
     CHANGED_ROADS = [
         # Without the metric each operator costs 1.
@@ -411,5 +460,6 @@ class SmallTasks(SolverTest):
 
     def test_changed_texts(self):
         for old, new, outcome in self.CHANGED_ROADS:
-            with self.subTest(new=new):
-                self.assertEqual(run("solve-sas", "s", "--simulate", "1", files={"s": ROAD_SAS.replace(old, new)}), outcome)
+            for schedule in self.SCHEDULES:
+                with self.subTest(new=new, schedule=schedule):
+                    self.assertEqual(run("solve-sas", "s", *schedule, files={"s": ROAD_SAS.replace(old, new)}), outcome)

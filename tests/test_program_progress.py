@@ -3,7 +3,7 @@
 import re
 
 from program import ProgramTest, example, run
-from test_search_threads import HANOI, tower
+from test_search_threads import HANOI, states_within, tower
 
 # The number of steps of a simulation between two lines.
 STEPS = 100_000
@@ -44,6 +44,11 @@ class ProgressTest(ProgramTest):
         # From line to line more nodes are expanded, and no stored state is removed.
         self.assertEqual([it[1] for it in lines], sorted({it[1] for it in lines}))
         self.assertEqual([it[2] for it in lines], sorted(it[2] for it in lines))
+        # The steps are used up, and the last line counts the expansions. All states that cost less than the bound are expanded.
+        bound = int(told.out.removeprefix(b"limit "))
+        self.assertEqual((told.status, lines[-1][0]), (5, 1_000_000))
+        self.assertIn(bound, range(1, 2**DISCS))
+        self.assertLessEqual(states_within(bound - 1), lines[-1][1])
 
     def test_steps_that_are_used_up(self):
         for steps, count in (("99999", 0), ("100000", 1), ("199999", 1), ("200000", 2)):

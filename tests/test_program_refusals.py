@@ -5,7 +5,7 @@ import itertools
 import shutil
 import unittest
 
-from program import Outcome, ProgramTest, example, run, wanted
+from program import Outcome, ProgramTest, example, run, unread, unwritten, wanted
 from refusals import KINDS, OUT_OF_MEMORY, commands, is_right, refused_in_turn, run_refusing
 from test_certificate_sas import edited
 from test_certificate_domains import WITH_TABLE
@@ -18,12 +18,11 @@ STEP = 97
 @unittest.skipUnless(shutil.which("cc"), "there is no C compiler (cc)")
 class Refusals(ProgramTest):
     def test_each_command(self):
-        for command, files in commands():
-            plain = run(*command, files=files)
+        for command, files, end in commands():
             for kind in KINDS:
                 with self.subTest(command=command, kind=kind):
                     ended = list(refused_in_turn(kind, command, files, STEP if kind == "growth" else 1))
-                    self.assertEqual([it for it in ended if not is_right(kind, plain, it[1])], [])
+                    self.assertEqual([it for it in ended if not is_right(kind, end, it[1])], [])
                     if kind != "thread" or "--workers" in command:
                         self.assertTrue(ended)
 
@@ -34,10 +33,6 @@ UNSOLVABLE = Outcome(out=b"unsolvable\n", status=4)
 
 # The road's certificate with the table of its distances in place of the closed states.
 ROAD_TABLE = edited(example("road", "planning.cert"), WITH_TABLE)
-
-
-def unread(file):
-    return Outcome(err=f"optplan: F70 CannotRead {file}\n".encode(), status=7)
 
 
 @unittest.skipUnless(shutil.which("cc"), "there is no C compiler (cc)")
@@ -97,9 +92,8 @@ class WorkedAnswers(ProgramTest):
 
     def test_output_that_fails(self):
         for words, files, _, _ in self.READ_ROWS:
-            unwritten = Outcome(err=b"optplan: F71 CannotWrite output\n", status=7)
             with self.subTest(words=words):
-                self.assertEqual(run_refusing("write", 1, words, files), (unwritten, True))
+                self.assertEqual(run_refusing("write", 1, words, files), (unwritten("output"), True))
 
     def test_standard_error_that_fails(self):
         # The status says all the same that a text was refused.

@@ -3,7 +3,7 @@ bound."""
 
 from program import Outcome, ProgramTest, checked, checked_sas, example, run
 from second_reading import check_sas
-from test_search_threads import HANOI, tower
+from test_search_threads import HANOI, states_within, tower
 
 # Examples that are solved after few states, with the costs of their cheapest plans: three blocks picked up and stacked;
 # a step; the way over b; two balls carried by one hand; four balls picked up and dropped by two hands, with two moves
@@ -153,18 +153,19 @@ class LimitTest(StoppedTest):
                     self.is_certified(domain, problem, outcome, name=name, limit=limit, workers=workers)
 
     def test_bound_never_falls_as_the_limit_rises(self):
-        # with one seed, the steps of a lesser limit are a prefix of those of a greater one
-        for name in SMALL_TASKS:
+        # with one seed, the steps of a lesser limit are a prefix of those of a greater one; the first expansion is that of
+        # the initial state, after which no step is free
+        for name, cost in SMALL_TASKS.items():
             domain, problem = example(name, "domain.pddl"), example(name, "problem.pddl")
             least = 0
             for limit in range(41):
                 outcome = solved(domain, problem, "--table", "1", "--workers", "2", "--limit", str(limit))
+                bounds = range(max(1, least), cost + 1) if limit else (0,)
+                least = int(bound_of(outcome))
+                with self.subTest(name=name, limit=limit):
+                    self.assertIn(least, bounds if outcome.status == STOPPED else (cost,))
                 if outcome.status != STOPPED:
                     break
-                bound = int(bound_of(outcome))
-                with self.subTest(name=name, limit=limit):
-                    self.assertLessEqual(least, bound)
-                least = bound
 
 
 class WatchTest(StoppedTest):
@@ -187,10 +188,14 @@ class WatchTest(StoppedTest):
         for workers in ("1", "4"):
             outcome = solved(HANOI, tower(10), "--table", "1", "--workers", workers, "--memory", "1", seed=None)
             self.assertEqual(outcome.status, STOPPED)
-            closed = next(line for line in outcome.files["cert"].splitlines() if line.startswith(b"closed "))
-            with self.subTest(workers=workers, closed=closed):
-                self.assertGreater(int(closed.split()[1]), 1_000)
-                self.assertLess(int(closed.split()[1]), 20_000)
+            line = next(line for line in outcome.files["cert"].splitlines() if line.startswith(b"closed "))
+            closed, bound = int(line.split()[1]), int(bound_of(outcome))
+            with self.subTest(workers=workers, closed=closed, bound=bound):
+                self.assertIn(closed, range(1_001, 20_000))
+                # all states that cost less than the bound are closed, and one worker closes no state that costs more
+                self.assertIn(bound, range(1, 2**10))
+                self.assertLessEqual(states_within(bound - 1), closed)
+                self.assertTrue(workers == "4" or closed <= states_within(bound))
             self.is_certified(HANOI, tower(10), outcome, workers=workers)
 
     def test_memory_of_a_simulation_is_not_limited(self):

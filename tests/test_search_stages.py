@@ -5,14 +5,15 @@ import re
 from program import Outcome, example, run
 from planning import PlannerTest, solved
 from test_search_small_tasks import KEY_BEHIND_ITS_LOCK, LOCKS
-from test_search_threads import HANOI, tower
+from test_search_threads import HANOI, states_within, tower
 
 # The first stage has tables of at most 300 abstract states, which say little about the 3^11 states of a tower of 11 discs,
 # and ends at 60,000 of them.
 DISCS = 11
 STAGE = re.compile(rb"optplan: stage (\d+), (\d+) tables, (\d+) abstract states")
-# Example tasks, and the costs of their cheapest plans.
+# Example tasks, and the costs of their cheapest plans and of their cheapest first steps.
 COSTS = {"drive": 7, "grip": 7, "gripper": 11, "road": 2}
+FIRST_STEPS = {"drive": 3, "grip": 1, "gripper": 1, "road": 1}
 
 
 class Stages(PlannerTest):
@@ -25,15 +26,18 @@ class Stages(PlannerTest):
                         self.is_cheapest(domain, problem, solved(domain, problem, workers=workers, **options), cost)
 
     def test_same_answer_without_a_certificate(self):
-        """With one worker, and by a seed, one plan and one bound are found, whether a certificate is made or not."""
-        tasks = [(example(task, "domain.pddl"), example(task, "problem.pddl")) for task in COSTS] + [(LOCKS, KEY_BEHIND_ITS_LOCK)]
-        for domain, problem in tasks:
-            for options in ({}, {"simulate": 3}, {"table": 1, "limit": 1}):
+        """With one worker, and by a seed, one plan and one bound are found, whether a certificate is made or not. The
+        bound without tables is the cost of a step: the initial state alone is expanded."""
+        tasks = [(example(task, "domain.pddl"), example(task, "problem.pddl"), f"; cost = {cost} (", FIRST_STEPS[task])
+                 for task, cost in COSTS.items()]
+        for domain, problem, answer, step in [*tasks, (LOCKS, KEY_BEHIND_ITS_LOCK, "unsolvable", 1)]:
+            for options, text in (({}, answer), ({"simulate": 3}, answer), ({"table": 1, "limit": 1}, f"limit {step}\n")):
                 with self.subTest(problem=problem, **options):
                     asked = solved(domain, problem, workers=1, **options)
                     words = [word for name, value in options.items() for word in (f"--{name}", str(value))]
                     plain = run("solve", "d", "p", "--workers", "1", *words, files={"d": domain, "p": problem})
                     self.assertEqual(plain, Outcome(asked.out, asked.err, asked.status))
+                    self.assertIn(text, plain.out.decode())
 
     def test_goal_where_a_size_or_a_seed_is_given(self):
         """A search with tables of one abstract state, which say nothing, expands more than one state of this task."""
@@ -61,6 +65,7 @@ class Stages(PlannerTest):
         found = [run(*words, files=files, processors=count) for count in (1, 2, 4)]
         for outcome in found:
             self.assertEqual(outcome.status, 0)
+            self.assertEqual(outcome.out.decode().splitlines()[-1], f"; cost = {2**DISCS - 1} (unit cost)")
             self.assertIn(b"optplan: stage 2, ", outcome.err)
             self.assertIn(b"\ntable ", outcome.files["c"])
             self.assertEqual(outcome.files, found[0].files)
@@ -70,10 +75,12 @@ class Stages(PlannerTest):
         self.assertEqual((told.status, b"stage" in told.err), (0, False))
 
     def test_limit_in_a_later_stage(self):
-        """The first stage ends before its worker has expanded this many states, and a later one reaches the limit."""
+        """The first stage ends before its worker has expanded this many states, and a later one reaches the limit. No state
+        that is expanded costs more than the bound, and none twice: tables make f-values that never decrease."""
         domain, problem = HANOI, tower(DISCS + 2)
         outcome = solved(domain, problem, workers=1, limit=150_000)
         self.assertEqual(outcome.status, 5)
         bound = int(outcome.out.split()[1])
-        self.assertLessEqual(bound, 2 ** (DISCS + 2) - 1)
+        self.assertIn(bound, range(2 ** (DISCS + 2)))
+        self.assertGreaterEqual(states_within(bound), 150_000)
         self.certifies(domain, problem, outcome.files["c"], bound)

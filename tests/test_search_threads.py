@@ -90,6 +90,12 @@ def tower(discs):
 """
 
 
+def states_within(moves):
+    """Returns how many states are at most this many moves away from a tower on one peg: 2 to the number of ones of d in
+    binary are d moves away, for d below 2 to the number of discs (Hinz 1992)."""
+    return sum(2 ** bin(distance).count("1") for distance in range(moves + 1))
+
+
 class Threads(PlannerTest):
     """Multi-threaded searches."""
 
@@ -150,22 +156,36 @@ class Threads(PlannerTest):
         searches = [{"workers": 4, "ring": 1} for _ in range(SEARCHES)]
         self.costs_by(searches, HANOI, problem, 511, table=1)
 
-    def is_bounded(self, problem, outcome, cost):
-        """Fails unless the outcome is a bound of at most this cost, no plan, and a certificate that the checker accepts
-        for it."""
+    def bound_of(self, problem, outcome):
+        """Returns the bound of an outcome. Fails unless it is a bound, without a plan, and the checker accepts the
+        certificate for it."""
         self.assertEqual((outcome.err, outcome.status, sorted(outcome.files)), (b"", 5, ["c"]))
         bound = outcome.out.decode().removeprefix("limit ").strip()
-        self.assertTrue(0 <= int(bound) <= cost)
         self.certifies(HANOI, problem, outcome.files["c"], bound)
+        return int(bound)
 
     def test_more_states_than_the_limit(self):
-        # Each of four owners has about 5,000 of the states.
+        # Each of four owners has about 5,000 of the states. At most 400 states are expanded, among them all that cost
+        # less than the bound, and the initial one in any case.
         problem = tower(9)
-        self.is_bounded(problem, solved(HANOI, problem, workers=4, table=1, limit=100), 511)
+        bound = self.bound_of(problem, solved(HANOI, problem, workers=4, table=1, limit=100))
+        self.assertLess(0, bound)
+        self.assertLessEqual(states_within(bound - 1), 400)
+
+    def test_one_worker_expands_near_states_first(self):
+        # 1 state is 0 moves away and 2 are 1 move away, 99 are at most 19 and 103 at most 20, 999 at most 87 and 1,007
+        # at most 88.
+        problem = tower(9)
+        for limit, bound in ((0, 0), (1, 1), (100, 20), (1000, 88)):
+            for options in ({}, {"simulate": 1}, {"ties": "shallow"}):
+                with self.subTest(limit=limit, **options):
+                    self.assertTrue(states_within(bound - 1) <= limit < states_within(bound))
+                    outcome = solved(HANOI, problem, workers=1, table=1, limit=limit, **options)
+                    self.assertEqual(self.bound_of(problem, outcome), bound)
 
     def test_no_time(self):
         problem = tower(9)
-        self.is_bounded(problem, solved(HANOI, problem, workers=2, table=1, time=0), 511)
+        self.assertIn(self.bound_of(problem, solved(HANOI, problem, workers=2, table=1, time=0)), range(512))
 
     def test_time_enough(self):
         outcome = solved(GRIP_DOMAIN, GRIP_PROBLEM, time=600)
