@@ -1,0 +1,3 @@
+pub mod Appends
+pub mod Explained
+pub mod InLine

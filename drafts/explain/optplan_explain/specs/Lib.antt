@@ -1,0 +1,5 @@
+pub mod Places
+pub mod Shown
+pub mod Layouts
+pub mod Spots
+pub mod Explanations
