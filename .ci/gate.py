@@ -35,7 +35,7 @@ use, records some crates at a time, and may be ended at any time: the toolchain 
 # The seconds after which the gate should have ended; and processor seconds, measured on four busy processors: of all
 # proofs and tests together, and of one edit on average.
 SECONDS_OF_A_RUN = 9900
-SECONDS_WITHOUT_EDITS = 15000
+SECONDS_WITHOUT_EDITS = 19000
 SECONDS_OF_AN_EDIT = 46
 GIB = 2**30
 # The greatest disk space of a run.
