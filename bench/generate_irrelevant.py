@@ -4,8 +4,8 @@
     generate_irrelevant.py FOLDER
 
 Each task is FOLDER/NAME.domain.pddl and FOLDER/NAME.problem.pddl; `optplan translate` makes its output.sas. visit-half4
-and visit-half5 are grids of which half of the cells is to be visited; satellites3 and satellites4 have goals for some of
-the images; rovers2 and rovers2b have goals for some of the samples and images.
+to visit-half7 are grids of which half of the cells is to be visited; satellites3 to satellites5 have goals for some of
+the images; rovers2, rovers2b and rovers3 have goals for some of the samples and images.
 """
 
 import os
@@ -100,10 +100,14 @@ def rovers(count, waypoints, goals):
 TASKS = {
     "visit-half4": (VISIT, grid(4, 4)),
     "visit-half5": (VISIT, grid(5, 4)),
+    "visit-half6": (VISIT, grid(6, 4)),
+    "visit-half7": (VISIT, grid(6, 5)),
     "satellites3": (SATELLITE, satellites(3, 6, ["(have-image d2 m0)", "(have-image d3 m1)", "(have-image d5 m0)", "(pointing s0 d4)"])),
     "satellites4": (SATELLITE, satellites(4, 7, ["(have-image d2 m0)", "(have-image d3 m1)", "(have-image d5 m0)", "(have-image d6 m1)"])),
+    "satellites5": (SATELLITE, satellites(5, 9, ["(have-image d2 m0)", "(have-image d3 m1)", "(have-image d5 m0)", "(have-image d6 m1)", "(have-image d7 m0)"])),
     "rovers2": (ROVERS, rovers(2, 6, ["(sent w2)", "(sent w4)", "(sent-image w5)"])),
     "rovers2b": (ROVERS, rovers(2, 7, ["(sent w2)", "(sent w4)", "(sent w5)", "(sent-image w6)"])),
+    "rovers3": (ROVERS, rovers(3, 8, ["(sent w2)", "(sent w4)", "(sent w5)", "(sent-image w6)", "(sent-image w7)"])),
 }
 
 

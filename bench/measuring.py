@@ -6,6 +6,7 @@ import resource
 import subprocess
 import sys
 import tempfile
+import threading
 import time
 
 RUNS = 3
@@ -59,6 +60,15 @@ def ties_in(arguments):
     return (arguments.pop(at), arguments.pop(at))[1]
 
 
+def workers_in(arguments, numbers):
+    """Takes `--workers N,..` out of the arguments, and returns 1 and these numbers of workers, by default `numbers`."""
+    if "--workers" not in arguments[:-1]:
+        return numbers
+    at = arguments.index("--workers")
+    given = (arguments.pop(at), arguments.pop(at))[1].split(",")
+    return (1, *(int(it) for it in given if it.isdecimal() and it != "1"))
+
+
 def generate(script, folder, size):
     """Runs a generator of this folder, and returns what it prints.
 
@@ -101,13 +111,20 @@ def run_capped(command, reports=False):
 
 
 def run_within(command, seconds):
-    """Runs a command once. Returns its status and what it writes to both streams, or None if it takes more than these
-    seconds."""
-    try:
-        ran = subprocess.run(command, stdin=subprocess.DEVNULL, stdout=subprocess.PIPE, stderr=subprocess.PIPE, timeout=seconds, check=False)
-    except subprocess.TimeoutExpired:
-        return None
-    return ran.returncode, ran.stdout.decode("ascii", "replace"), ran.stderr.decode("ascii", "replace")
+    """Runs a command once. Returns its status, what it writes to both streams, and the peak of its resident memory in
+    bytes, or None if it takes more than these seconds."""
+    with tempfile.TemporaryFile() as output, tempfile.TemporaryFile() as errors:
+        process = subprocess.Popen(command, stdin=subprocess.DEVNULL, stdout=output, stderr=errors)
+        alarm = threading.Timer(seconds, process.kill)
+        alarm.start()
+        _, wait_status, usage = os.wait4(process.pid, 0)
+        is_past = not alarm.is_alive()
+        alarm.cancel()
+        process.returncode = os.waitstatus_to_exitcode(wait_status)
+        if is_past:
+            return None
+        texts = [(it.seek(0), it.read().decode("ascii", "replace"))[1] for it in (output, errors)]
+    return process.returncode, *texts, usage.ru_maxrss * RESIDENT_UNIT
 
 
 def measure(name, program, command, script, files, size, answer):
