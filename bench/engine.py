@@ -53,8 +53,9 @@ import sys
 import time
 
 import measuring
+from stages import mean_of
 
-WORKERS = (1, 2, 4, 64)
+WORKERS = "1,2,4,64"
 RING = 64
 TABLE = 100_000
 MOST = 4_000_000
@@ -217,8 +218,7 @@ def median(values):
 def print_ratios(what, ratios):
     """Prints the geometric mean and the extremes of some ratios."""
     if ratios:
-        mean = math.exp(sum(map(math.log, ratios)) / len(ratios))
-        print(f"{what} of {len(ratios)} searches: mean {mean:.2f}, least {min(ratios):.2f}, greatest {max(ratios):.2f}")
+        print(f"{what} of {len(ratios)} searches: mean {mean_of(ratios):.2f}, least {min(ratios):.2f}, greatest {max(ratios):.2f}")
 
 
 def print_beside(with_tables, measured, numbers):

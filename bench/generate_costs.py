@@ -3,8 +3,8 @@
 
     generate_costs.py FILE zero|large|wide > OTHER
 
-Each operator's cost is an output of SplitMix64 from seed 1, the same at each call: with `zero` it is 0 for one operator of
-three and else 1, with `large` from 1 to 1,000,000, and with `wide` 1, 100 or 10,000.
+Each operator's cost is chosen by an output of SplitMix64 from seed 1, the same at each call: with `zero` it is 0 for about
+a third of the operators and else 1, with `large` from 1 to 1,000,000, and with `wide` 1, 100 or 10,000.
 """
 
 import sys

@@ -52,21 +52,27 @@ def compared(name, operand, is_required, arguments):
     return given
 
 
-def ties_in(arguments):
-    """Takes `--ties ORDER` out of the arguments, and returns the order, by default that of searches with threads."""
-    if "--ties" not in arguments[:-1]:
-        return "fresh"
-    at = arguments.index("--ties")
+def value_in(arguments, option, default):
+    """Takes an option and its value out of the arguments, and returns the value, or `default` if it is not given."""
+    if option not in arguments[:-1]:
+        return default
+    at = arguments.index(option)
     return (arguments.pop(at), arguments.pop(at))[1]
 
 
+def ties_in(arguments):
+    """Takes `--ties ORDER` out of the arguments, and returns the order, by default that of searches with threads."""
+    return value_in(arguments, "--ties", "fresh")
+
+
 def workers_in(arguments, numbers):
-    """Takes `--workers N,..` out of the arguments, and returns 1 and these numbers of workers, by default `numbers`."""
-    if "--workers" not in arguments[:-1]:
-        return numbers
-    at = arguments.index("--workers")
-    given = (arguments.pop(at), arguments.pop(at))[1].split(",")
-    return (1, *(int(it) for it in given if it.isdecimal() and it != "1"))
+    """Takes `--workers N,..` out of the arguments, and returns 1 and these numbers of workers, by default `numbers`. Ends
+    the process with status 2 if one of them is no number from 1 to 64."""
+    given = value_in(arguments, "--workers", numbers).split(",")
+    if not all(it.isdecimal() and 1 <= int(it) <= 64 for it in given):
+        print(f"not numbers of workers from 1 to 64: {','.join(given)}", file=sys.stderr)
+        sys.exit(2)
+    return (1, *(int(it) for it in given if int(it) != 1))
 
 
 def generate(script, folder, size):

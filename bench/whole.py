@@ -63,17 +63,9 @@ def measured(program, baseline, tables, file, cert):
     return calls[0][0], *map(min, zip(*runs))
 
 
-def tables_in(arguments):
-    """Takes `--tables KIND` out of the arguments, and returns the kind."""
-    if "--tables" not in arguments[:-1]:
-        return "goal"
-    at = arguments.index("--tables")
-    return (arguments.pop(at), arguments.pop(at))[1]
-
-
 def main(arguments):
     """Measures each file and prints the lines."""
-    tables = tables_in(arguments)
+    tables = measuring.value_in(arguments, "--tables", "goal")
     given = measuring.compared("whole.py", "OPTPLAN", True, arguments)
     rows, is_right = [], True
     print(f"{'task':<16} {'cost':>7} {'seconds':>8} {'with cert':>9} {'baseline':>8} {'ratio':>6} {'with cert':>9} {'MB':>6} {'check-sas':>9}")
