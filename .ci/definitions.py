@@ -12,7 +12,7 @@ import re
 import sys
 
 CRATES = os.path.join(os.path.dirname(os.path.dirname(os.path.abspath(__file__))), "crates")
-HEADLINE = ("pddl/Texts", "pddl_task/Plans", "translate_theory/Bounds", "optplan_plans/Plans", "validate/Written")
+HEADLINE = ("pddl/Texts", "pddl_task/Plans", "translate_theory/Bounds", "optplan_pddl/Plans", "validate/Written")
 # A name that a file uses: a crate, a file of its definitions, and what follows.
 USE = re.compile(r"(?:pub )?use Rattle\.(\w+)\.specs\.(\w+)")
 

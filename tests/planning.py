@@ -90,5 +90,5 @@ class PlannerTest(ProgramTest):
             with self.subTest(problem=problem, **options):
                 outcome = solved(domain, problem, **with_tables(options, TABLE))
                 cert = outcome.files.get("c", b"")
-                self.assertEqual(outcome, Outcome(out=b"unsolvable\n", status=4, files={"c": cert}))
+                self.assertEqual(outcome, Outcome(out=b"unsolvable\n", status=4, files={"c": cert, "l": b""}))
                 self.certifies(domain, problem, cert, "unsolvable")

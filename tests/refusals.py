@@ -7,8 +7,9 @@ before the C library (`refusing.c`, built by `cc`) selects the call, so each cal
 Refuses each call of each kind in turn, in a run of its own, under each command on small examples, until a run makes no
 further call of the kind. After a refused growth of memory the answer is that worked out by hand or `optplan: out of
 memory`; after a refused thread it is that worked out by hand; a file that cannot be opened, read or written is named by
-its fault. Wrong runs are printed, and the last line is the number of runs with a refused call and of those that ended
-wrongly. The status is 1 if one did. Takes some minutes.
+its fault, and the others are written, unless no search was begun. A text with a fault is refused all the same, with the
+status of a refused text if the fault cannot be reported. Wrong runs are printed, and the last line is the number of runs
+with a refused call and of those that ended wrongly. The status is 1 if one did. Takes some minutes.
 """
 
 import atexit
@@ -22,7 +23,7 @@ import sys
 import tempfile
 
 from program import Outcome, example, run
-from texts import ROAD_DOMAIN, ROAD_TO_NOWHERE
+from texts import ROAD_DOMAIN, ROAD_PROBLEM, ROAD_SAS, ROAD_TO_NOWHERE
 
 KINDS = ("growth", "thread", "open", "read", "write")
 OUT_OF_MEMORY = Outcome(err=b"optplan: out of memory\n", status=6)
@@ -77,15 +78,22 @@ PLANNING = (("d", "domain.pddl"), ("p", "problem.pddl"))
 @dataclasses.dataclass(frozen=True)
 class End:
     """What answers have in common that name two cheapest plans: the last line of standard output, the exit status, and
-    the names of the files that are written. Nothing is on standard error."""
+    the names of the files that are written; or, of a refused text, the line of its fault on standard error alone."""
 
-    line: bytes
+    line: bytes = b""
     status: int = 0
     files: list = dataclasses.field(default_factory=list)
+    fault: bytes = b""
 
     def is_of(self, outcome):
         """Returns whether an outcome ends like this."""
-        return (outcome.out.splitlines()[-1:], outcome.err, outcome.status, sorted(outcome.files)) == ([self.line], b"", self.status, self.files)
+        lines = [self.line] if self.line else []
+        return (outcome.out.splitlines()[-1:], outcome.err, outcome.status, sorted(outcome.files)) == (lines, self.fault, self.status, self.files)
+
+    def last_lines(self):
+        """Returns the last line of each output that is not empty, by the word that names it in a fault."""
+        has_plan = self.status == 0 and "plan" in self.files
+        return {"output": self.line} | ({"plan": self.line} if has_plan else {}) | ({"cert": b"end"} if "cert" in self.files else {})
 
 
 def commands():
@@ -94,7 +102,7 @@ def commands():
     plan_and_cert = ("--plan", "plan", "--cert", "cert")
     for files, *answer in ((files_of("road", *PLANNING), b"; cost = 2 (unit cost)", 0, ["cert", "plan"]),
                            (files_of("grip", *PLANNING), b"; cost = 7 (unit cost)", 0, ["cert", "plan"]),
-                           ({"d": ROAD_DOMAIN, "p": ROAD_TO_NOWHERE}, b"unsolvable", 4, ["cert"])):
+                           ({"d": ROAD_DOMAIN, "p": ROAD_TO_NOWHERE}, b"unsolvable", 4, ["cert", "plan"])):
         for schedule in (("--simulate", "1"), ("--workers", "2")):
             yield ("solve", "d", "p", *schedule, *plan_and_cert), files, End(*answer)
     files = files_of("road", ("s", "task.sas"), ("c", "table.cert"))
@@ -107,6 +115,36 @@ def commands():
         yield ("validate", "d", "p", "l"), files | {"l": solved.files["l"]}, End(b"valid %d" % cost)
         yield ("check", "d", "p", "c"), files | {"c": solved.files["c"]}, End(b"accepted %d" % cost)
     yield ("migrate-cert", "c"), {"c": solved.files["c"]}, End(b"end")
+    yield from commands_on_faults()
+
+
+def commands_on_faults():
+    """Yields the arguments of commands on a text with a fault, near its end, the files that they name, and the end of the
+    answer: that fault."""
+    road, cert = {"d": ROAD_DOMAIN, "p": ROAD_PROBLEM}, example("road", "planning.cert")
+    for words, files, fault in (
+        (("translate", "d", "p"), road | {"d": ROAD_DOMAIN.rstrip()[:-1]}, "F2 Unclosed domain 0"),
+        (("solve", "d", "p", "--plan", "plan", "--cert", "cert"), road | {"p": ROAD_PROBLEM.replace("(at c)", "(at d)")},
+         "F12 UnknownName problem 110"),
+        (("solve-sas", "s", "--plan", "plan", "--cert", "cert"), {"s": ROAD_SAS + "x"}, "F46 Trailing sas 46"),
+        (("validate", "d", "p", "l"), road | {"l": "(go a b)()"}, "F25 PlanShape plan 8"),
+        (("check", "d", "p", "c"), road | {"c": cert + "end\n"}, "F54 Trailing cert 17"),
+        (("check-sas", "s", "c"), {"s": ROAD_SAS, "c": cert}, "F51 Expected cert 2"),
+        (("migrate-cert", "c"), {"c": cert.removesuffix("end\n")}, "F53 Truncated cert"),
+    ):
+        yield words, files, End(status=1, fault=f"optplan: {fault}\n".encode())
+
+
+def last_lines(outcome):
+    """Returns the last line of each output that is not empty, by the word that names it in a fault."""
+    texts = {"output": outcome.out, "plan": outcome.files.get("plan", b""), "cert": outcome.files.get("cert", b"")}
+    return {word: text.splitlines()[-1] for word, text in texts.items() if text}
+
+
+def is_kept_besides(word, end, outcome):
+    """Returns whether each output but this one ends as in an answer with this end, or none was written."""
+    ended, expected = last_lines(outcome), end.last_lines()
+    return not ended or all(ended.get(it) == line for it, line in expected.items() if it != word)
 
 
 def is_right(kind, end, outcome):
@@ -115,10 +153,14 @@ def is_right(kind, end, outcome):
     if end.is_of(outcome):
         return True
     if kind == "growth":
-        return outcome == OUT_OF_MEMORY
+        is_bare = dataclasses.replace(outcome, files={}) == OUT_OF_MEMORY and not any(outcome.files.values())
+        return is_bare and set(outcome.files) <= set(end.files)
     if kind in ("open", "read") and CANNOT_READ.fullmatch(outcome.err):
         return (outcome.out, outcome.status, outcome.files) == (b"", 7, {})
-    return kind in ("open", "write") and outcome.status == 7 and bool(CANNOT_WRITE.fullmatch(outcome.err))
+    if end.fault:
+        return kind == "write" and outcome == Outcome(status=end.status)
+    failed = CANNOT_WRITE.fullmatch(outcome.err)
+    return kind in ("open", "write") and outcome.status == 7 and bool(failed) and is_kept_besides(failed[1].decode(), end, outcome)
 
 
 def main(words):

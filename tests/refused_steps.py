@@ -20,6 +20,9 @@ from refusals import library
 FOLDER = os.path.dirname(os.path.abspath(__file__))
 BUILT = os.path.join(os.path.dirname(FOLDER), "crates", "bench_refusals", "out", "bench_refusals")
 
+# The output, the standard error and the status of a run that is refused memory before or after its search.
+NOTHING_REPORTED = (b"", b"", 6)
+
 
 def run_refusing(program, number):
     """Returns the output, the standard error and the status of a run whose growth with this number is refused, and
@@ -35,21 +38,32 @@ def run_refusing(program, number):
     return (ended.stdout, ended.stderr, ended.returncode), bool(report)
 
 
+def refused_in_turn(program):
+    """Yields, for each growth, its number and the outcome of the run in which it was refused."""
+    number = 1
+    outcome, was_refused = run_refusing(program, number)
+    while was_refused:
+        yield number, outcome
+        number += 1
+        outcome, was_refused = run_refusing(program, number)
+
+
+def reports(program):
+    """Returns the outcome of a run without a refusal, and that of a run with the same states whose step was refused."""
+    plain = subprocess.run([program], capture_output=True, check=False)
+    return (plain.stdout, plain.stderr, 0), (plain.stdout, plain.stderr.replace(b"\n0 refused\n", b"\n1 refused\n"), 0)
+
+
 def main(words):
     program = os.path.abspath(words[0]) if words else BUILT
     if len(words) > 1 or not os.access(program, os.X_OK):
         print("usage: refused_steps.py [PROGRAM]", file=sys.stderr)
         return 2
-    plain = subprocess.run([program], capture_output=True, check=False)
-    again = plain.stdout, plain.stderr.replace(b"0 refused\n", b"1 refused\n"), 0
+    plain, again = reports(program)
     number = in_steps = wrong = 0
-    while True:
-        outcome, was_refused = run_refusing(program, number + 1)
-        if not was_refused:
-            break
-        number += 1
+    for number, outcome in refused_in_turn(program):
         in_steps += outcome == again
-        if outcome not in (again, (plain.stdout, plain.stderr, 0), (b"", b"", 6)):
+        if outcome not in (again, plain, NOTHING_REPORTED):
             wrong += 1
             print(f"growth {number}: {outcome}")
     print(f"{number} growths refused, {in_steps} of them in a step, {wrong} ended wrongly")

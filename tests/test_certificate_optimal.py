@@ -76,6 +76,13 @@ class Verdicts(ProgramTest):
         # A plan as `solve` writes it, and one with other case and blanks.
         (example("drive", "plan.txt"), EXACT, "optimal 7", 0),
         ("( GO A B)(go\tb c) ; and no more", EXACT, "optimal 7", 0),
+        # Plans as other tools write them: after the line of a limit, with the cost in a comment, with time stamps and
+        # durations.
+        ("limit 5\n" + CHEAPEST, EXACT, "optimal 7", 0),
+        (CHEAPEST + "; cost = 7 (general cost)\n", EXACT, "optimal 7", 0),
+        ("0: (go a b)\n1: (go b c)\n", EXACT, "optimal 7", 0),
+        ("9.5: (go a b) [3.0]\n10.25: (go b c)  [4]\n", EXACT, "optimal 7", 0),
+        ("limit 5\n0.0: (go a c) [8.000]\n", EXACT, "valid 8, at least 7", 3),
     ]
 
     # Plans that are not valid, with the line that `validate` prints.
@@ -165,6 +172,9 @@ class Faults(ProgramTest):
         ("", DRIVE_PROBLEM, CLAIM, EXACT, "F6 Empty domain"),
         (DRIVE_DOMAIN, "", CLAIM, EXACT, "F6 Empty problem"),
         (DRIVE_DOMAIN, DRIVE_PROBLEM, "(go a b", EXACT, "F2 Unclosed plan 0"),
+        # A time stamp that is not greater than the one before it, and the line of a limit that is not the first.
+        (DRIVE_DOMAIN, DRIVE_PROBLEM, "0: (go a b)\n0.0: (go b c)\n", EXACT, "F25 PlanShape plan 12"),
+        (DRIVE_DOMAIN, DRIVE_PROBLEM, "(go a b)\nlimit 5\n(go b c)\n", EXACT, "F25 PlanShape plan 9"),
         # A certificate of the other kind, without its last line, and with a line after it.
         (DRIVE_DOMAIN, DRIVE_PROBLEM, CHEAPEST, FINITE_DOMAIN, "F51 Expected cert 2"),
         (DRIVE_DOMAIN, DRIVE_PROBLEM, CLAIM, FINITE_DOMAIN, "F51 Expected cert 2"),

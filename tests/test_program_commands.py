@@ -148,6 +148,12 @@ class CommandLine(ProgramTest):
                 self.assertEqual((outcome.out, outcome.status), (b"", 2))
                 self.assertTrue(outcome.err, "nothing is reported")
 
+    def test_words_that_are_no_text(self):
+        line = b"error: invalid UTF-8 was detected in one or more arguments\n"
+        for words in ([b"\xff"], ["validate", b"d\xff", "p", "l"], ["solve", "d", "p", "--cert", b"\xc3"], [b"--\xe9\xe9"]):
+            with self.subTest(words=words):
+                self.assertEqual(run(*words, files={"d": ROAD_DOMAIN, "p": ROAD_PROBLEM, "l": ROAD_STEPS}), Outcome(err=line, status=2))
+
     def test_odd_names_of_a_check(self):
         files = {name: ROAD_SAS for name in ["s", "-x", "s s", "é", "check-sas"]}
         files |= {name: ROAD_CERTIFICATE for name in ["c", "--help"]}
@@ -261,11 +267,11 @@ class Files(ProgramTest):
                         self.assertEqual(run(*words, files=self.FILES), unread(self.FILE_WORDS[letter]))
 
     def test_files_that_cannot_be_written(self):
-        # A file in a missing folder, a folder, and a device that is full.
+        # A file in a missing folder, and a folder.
         for task in (("solve", "d", "p"), ("solve-sas", "s")):
             for schedule in (("--simulate", "1"), ("--workers", "2")):
                 for file in ("plan", "cert"):
-                    for name in ("gone/f", ".", "/dev/full"):
+                    for name in ("gone/f", "."):
                         words = (*task, *schedule, f"--{file}", name)
                         with self.subTest(words=words):
                             self.assertEqual(run(*words, files=self.FILES), unwritten(file))
@@ -286,13 +292,65 @@ class Files(ProgramTest):
                 self.assertEqual(run(command, "gone", *others, files=files, full=("stderr",)), Outcome(status=7))
                 self.assertEqual(run(command, letter, *others, files=self.FILES, full=("stdout", "stderr")), Outcome(status=7))
 
-    def test_the_certificate_is_written_first(self):
-        outcome = run("solve", "d", "p", "--simulate", "1", "--plan", "gone/l", "--cert", "c", files=ROAD_FILES)
-        self.assertEqual((outcome.out, outcome.err, outcome.status), (b"", unwritten("plan").err, 7))
-        self.assertEqual([*outcome.files], ["c"])
-        self.assertEqual(run("solve", "d", "p", "--simulate", "1", "--plan", "l", "--cert", "gone/c", files=ROAD_FILES), unwritten("cert"))
+    def test_what_cannot_be_written_does_not_keep_the_rest(self):
+        # A device that is full, and a standard output that is.
+        for words in (("solve", "d", "p", "--simulate", "1"), ("solve", "d", "p", "--workers", "2"), ("solve-sas", "s", "--workers", "2")):
+            for file in ("plan", "cert"):
+                with self.subTest(words=words, file=file):
+                    outcome = run(*words, f"--{file}", "/dev/full", files=self.FILES)
+                    self.assertEqual(outcome, dataclasses.replace(unwritten(file), out=ROAD_PLAN.encode()))
         outcome = run("solve", "d", "p", "--simulate", "1", "--plan", "l", "--cert", "c", files=ROAD_FILES, full=("stdout",))
-        self.assertEqual((outcome.err, outcome.status, sorted(outcome.files)), (unwritten("output").err, 7, ["c", "l"]))
+        self.assertEqual((outcome.err, outcome.status, outcome.files["l"]), (unwritten("output").err, 7, ROAD_PLAN.encode()))
+        self.assertTrue(outcome.files["c"].endswith(b"end\n"))
+
+    def test_files_are_created_in_order_before_the_search(self):
+        words = ("solve", "d", "p", "--simulate", "1")
+        outcome = run(*words, "--plan", "gone/l", "--cert", "c", files=ROAD_FILES)
+        self.assertEqual(outcome, dataclasses.replace(unwritten("plan"), files={"c": b""}))
+        self.assertEqual(run(*words, "--plan", "l", "--cert", "gone/c", files=ROAD_FILES), unwritten("cert"))
+
+    def test_files_are_emptied_where_there_is_no_plan(self):
+        files = {"d": ROAD_DOMAIN, "p": ROAD_PROBLEM_WITHOUT_WAY, "l": "of an earlier run", "c": "of an earlier run"}
+        outcome = run("solve", "d", "p", "--simulate", "1", "--plan", "l", "--cert", "c", files=files)
+        self.assertEqual((outcome.out, outcome.err, outcome.status, outcome.files["l"]), (b"unsolvable\n", b"", 4, b""))
+        self.assertEqual(checked(ROAD_DOMAIN, ROAD_PROBLEM_WITHOUT_WAY, outcome.files["c"]), wanted("accepted unsolvable"))
+
+    # The arguments of a text that is refused, and the fault.
+    REFUSED_TEXT_ROWS = [
+        (("solve", "d", "d", "--simulate", "1"), "F10 Shape problem 0"),
+        (("solve-sas", "d"), "F41 Expected sas 1"),
+    ]
+
+    def test_refused_texts_leave_files_as_they_were(self):
+        files = ROAD_FILES | {"l": "of an earlier run", "c": "of an earlier run"}
+        for words, fault in self.REFUSED_TEXT_ROWS:
+            self.is_answered(run(*words, "--plan", "l", "--cert", "c", files=files), fault, words=words)
+
+    # The arguments by which a file is written that is read too, or two texts to one file, and the option that is
+    # refused.
+    TAKEN_ROWS = [
+        (("solve", "d", "p", "--plan", "d"), "plan"),
+        (("solve", "d", "p", "--plan", "p"), "plan"),
+        (("solve", "d", "p", "--cert", "d"), "cert"),
+        (("solve", "d", "p", "--cert=p"), "cert"),
+        (("solve", "d", "p", "--cert", "x", "--plan", "x"), "plan"),
+        (("solve-sas", "s", "--plan", "s"), "plan"),
+        (("solve-sas", "s", "--cert", "s"), "cert"),
+        (("solve-sas", "s", "--plan", "x", "--cert", "x"), "plan"),
+        # No file is read before.
+        (("solve", "gone", "p", "--plan", "gone"), "plan"),
+    ]
+
+    def test_a_file_has_one_text(self):
+        for words, option in self.TAKEN_ROWS:
+            with self.subTest(words=words):
+                outcome = run(*words, files=ROAD_FILES | {"s": ROAD_SAS})
+                self.assertEqual((outcome.out, outcome.status, outcome.files), (b"", 2, {}))
+                self.assertIn(f"'--{option}'".encode(), outcome.err)
+
+    def test_the_null_device_takes_both(self):
+        outcome = run("solve", "d", "p", "--simulate", "1", "--plan", "/dev/null", "--cert", "/dev/null", files=ROAD_FILES)
+        self.assertEqual(outcome, Outcome(out=ROAD_PLAN.encode()))
 
 
 def with_line(text, number, line):
@@ -380,7 +438,7 @@ class Answers(SolverTest):
         (["--simulate", "1", "--plan", "l"], Answer(ROAD_PLAN, written=("l",))),
         (["--cert", "c", "--simulate", "1"], Answer(ROAD_PLAN, written=("c",))),
         (["--simulate", "1", "--workers", "1", "--limit", "1", "--cert", "c"], Answer("limit 2\n", 5, ("c",))),
-        (["--simulate", "1", "--steps", "1", "--plan", "l"], LIMIT),
+        (["--simulate", "1", "--steps", "1", "--plan", "l"], Answer("limit 2\n", 5, ("l",))),
         (["--simulate", "1", "--time", "0"], Answer(ROAD_PLAN)),
         (["--simulate", "9223372036854775807", "--table", "1"], Answer(ROAD_PLAN)),
         # With threads. The number of steps limits simulations alone.
@@ -394,7 +452,7 @@ class Answers(SolverTest):
 
     def test_no_way(self):
         files = {"d": ROAD_DOMAIN, "p": ROAD_PROBLEM_WITHOUT_WAY}
-        self.puts(["solve", "d", "p", "--simulate", "3", "--plan", "l", "--cert", "c"], files, Answer("unsolvable\n", 4, ("c",)))
+        self.puts(["solve", "d", "p", "--simulate", "3", "--plan", "l", "--cert", "c"], files, Answer("unsolvable\n", 4, ("c", "l")))
 
     def test_no_way_to_go(self):
         files = {"d": ROAD_DOMAIN, "p": ROAD_PROBLEM_AT_ITS_GOAL}

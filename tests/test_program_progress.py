@@ -2,7 +2,7 @@
 
 import re
 
-from program import ProgramTest, example, run
+from program import Outcome, ProgramTest, example, run
 from test_search_threads import HANOI, states_within, tower
 
 # The number of steps of a simulation between two lines.
@@ -80,7 +80,6 @@ class ProgressTest(ProgramTest):
 
     def test_nothing_is_told_of_short_searches(self):
         files = {"d": example("road", "domain.pddl"), "p": example("road", "problem.pddl")}
-        for words in ((), ("--simulate", "1")):
+        for words in ((), ("--simulate", "1"), ("--progress",), ("--progress", "--simulate", "1")):
             with self.subTest(words=words):
-                told, plain = run("solve", "d", "p", "--progress", *words, files=files), run("solve", "d", "p", *words, files=files)
-                self.assertEqual((told.status, told.out, told.err), (plain.status, plain.out, b""))
+                self.assertEqual(run("solve", "d", "p", *words, files=files), Outcome(out=b"(go a b)\n(go b c)\n; cost = 2 (unit cost)\n"))

@@ -59,13 +59,12 @@ def bound_of(outcome):
 
 
 class StoppedTest(ProgramTest):
-    def is_solved(self, outcome, out, status, plan=None, **row):
-        """Fails, and shows the row, unless this was printed, with this status, and the plan's file has this text, if
-        one is expected."""
+    def is_solved(self, outcome, out, status, plan=b"", **row):
+        """Fails, and shows the row, unless this was printed, with this status, and the plan's file has this text."""
         with self.subTest(**row):
-            files = {"cert": outcome.files.get("cert")} | ({} if plan is None else {"plan": plan})
-            self.assertIsNotNone(files["cert"])
-            self.assertEqual(outcome, Outcome(out=out, status=status, files=files))
+            cert = outcome.files.get("cert")
+            self.assertTrue(cert)
+            self.assertEqual(outcome, Outcome(out=out, status=status, files={"cert": cert, "plan": plan}))
 
     def is_certified(self, domain, problem, outcome, **row):
         """Fails, and shows the row, unless the certificate is accepted for exactly what was answered."""

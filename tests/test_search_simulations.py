@@ -77,12 +77,12 @@ class Machine(PlannerTest):
         self.certifies(ROAD_DOMAIN, ROAD_NOWHERE, NOWHERE_CERTIFICATE, 0)
 
     def test_search_limits(self):
-        # One step, or one expansion, finds no plan from a to c. Tables of the whole road have its length as the initial
-        # value.
+        # One step, or one expansion, finds no plan from a to c: the plan's file stays empty. Tables of the whole road have
+        # its length as the initial value.
         for option in ({"steps": 1}, {"limit": 1}):
             outcome = solved(ROAD_DOMAIN, ROAD_PROBLEM, simulate=1, workers=1, **option)
             cert = outcome.files.get("c", b"")
-            self.assertEqual(outcome, Outcome(out=b"limit 2\n", status=5, files={"c": cert}))
+            self.assertEqual(outcome, Outcome(out=b"limit 2\n", status=5, files={"c": cert, "l": b""}))
             self.certifies(ROAD_DOMAIN, ROAD_PROBLEM, cert, 2)
 
     def test_small_tables(self):

@@ -2,7 +2,7 @@
 
 import re
 
-from program import Outcome, example, run
+from program import Outcome, example, run, validated, wanted
 from planning import PlannerTest, solved
 from test_search_small_tasks import KEY_BEHIND_ITS_LOCK, LOCKS
 from test_search_threads import HANOI, states_within, tower
@@ -63,6 +63,8 @@ class Stages(PlannerTest):
         files = {"d": HANOI, "p": tower(DISCS)}
         words = ("solve", "d", "p", "--workers", "1", "--progress", "--plan", "l", "--cert", "c")
         found = [run(*words, files=files, processors=count) for count in (1, 2, 4)]
+        self.assertEqual(validated(files["d"], files["p"], found[0].files["l"]), wanted(f"valid {2**DISCS - 1}"))
+        self.certifies(files["d"], files["p"], found[0].files["c"], 2**DISCS - 1)
         for outcome in found:
             self.assertEqual(outcome.status, 0)
             self.assertEqual(outcome.out.decode().splitlines()[-1], f"; cost = {2**DISCS - 1} (unit cost)")

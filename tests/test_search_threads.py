@@ -2,11 +2,11 @@
 states, and searches that a limit or their time ends.
 """
 
-from program import Outcome, run
+from program import Outcome, checked_sas, run, validated, wanted
 from second_reading import check_sas
 from planning import PlannerTest, solved
 from test_search_hanoi import DOMAIN as HANOI
-from texts import (DOOR_DOMAIN, DRIVE_DOMAIN, DRIVE_PROBLEM, GRIP_DOMAIN, GRIP_PROBLEM, HALF_A_ROAD, LOCKED_DOOR,
+from texts import (DOOR_DOMAIN, DRIVE_DOMAIN, DRIVE_PROBLEM, GRIP_DOMAIN, GRIP_PROBLEM, GRIP_SAS, HALF_A_ROAD, LOCKED_DOOR,
                    OPEN_DOOR, ROAD_DOMAIN, ROAD_PROBLEM, ROAD_PROBLEM_AT_ITS_GOAL, ROAD_SAS, ROAD_TO_BE_MADE,
                    ROAD_TO_NOWHERE)
 
@@ -109,8 +109,8 @@ class Threads(PlannerTest):
         with self.subTest(problem=problem, **options):
             outcome = solved(domain, problem, **options)
             cert = outcome.files.get("c", b"")
-            files, status = ({"c": cert}, 4) if bound == "unsolvable" else ({"c": cert, "l": text}, 0)
-            self.assertEqual(outcome, Outcome(out=text, status=status, files=files))
+            plan, status = (b"", 4) if bound == "unsolvable" else (text, 0)
+            self.assertEqual(outcome, Outcome(out=text, status=status, files={"c": cert, "l": plan}))
             self.certifies(domain, problem, cert, bound)
 
     def test_small_tasks(self):
@@ -159,7 +159,7 @@ class Threads(PlannerTest):
     def bound_of(self, problem, outcome):
         """Returns the bound of an outcome. Fails unless it is a bound, without a plan, and the checker accepts the
         certificate for it."""
-        self.assertEqual((outcome.err, outcome.status, sorted(outcome.files)), (b"", 5, ["c"]))
+        self.assertEqual((outcome.err, outcome.status, sorted(outcome.files)), (b"", 5, ["c", "l"]))
         bound = outcome.out.decode().removeprefix("limit ").strip()
         self.certifies(HANOI, problem, outcome.files["c"], bound)
         return int(bound)
@@ -192,13 +192,14 @@ class Threads(PlannerTest):
         self.is_cheapest(GRIP_DOMAIN, GRIP_PROBLEM, outcome, 7)
 
     def test_finite_domain_task(self):
-        sas = run("translate", "d", "p", files={"d": GRIP_DOMAIN, "p": GRIP_PROBLEM}).out
+        # The planning task has the same actions, at the same costs.
         for workers in WORKERS:
             with self.subTest(workers=workers):
-                outcome = run("solve-sas", "s", "--workers", str(workers), "--cert", "c", files={"s": sas})
+                outcome = run("solve-sas", "s", "--workers", str(workers), "--cert", "c", files={"s": GRIP_SAS})
                 self.assertEqual((outcome.out.splitlines()[-1], outcome.status), (b"; cost = 7 (unit cost)", 0))
-                verdict = run("check-sas", "s", "c", files={"s": sas, "c": outcome.files["c"]})
-                self.assertEqual(verdict.out, b"accepted 7\n")
+                self.assertEqual(validated(GRIP_DOMAIN, GRIP_PROBLEM, outcome.out), wanted("valid 7"))
+                self.assertEqual(check_sas(GRIP_SAS.encode(), outcome.files["c"]), "accepted 7")
+                self.assertEqual(checked_sas(GRIP_SAS, outcome.files["c"]), wanted("accepted 7"))
 
     def test_costs_without_the_metric(self):
         # Each operator costs 1, whatever its line says.

@@ -18,7 +18,7 @@ use scp::make_columns;
 use std::alloc::{AllocError, Global};
 use std::process::ExitCode;
 use std::thread::Threads;
-use test_tasks::{fact, operator, task};
+use testing_tasks::{fact, operator, task};
 
 /// The seed of the random steps.
 const SEED: u64 = 1;

@@ -1,6 +1,6 @@
 //! The gate that measures the stages of a search.
 
-use optplan_sas::{Gate, Progress, Stop};
+use optplan_solver::{EndingGate, Gate, Progress, Stop};
 use std::alloc::{AllocError, Global};
 use std::sync::atomic::{AtomicU64, Ordering};
 use std::time::{Clock, Duration, Instant};
@@ -161,4 +161,8 @@ impl<'a, R: Clock> Gate for Counting<'a, R> {
             row.abstract_states.store(states, Ordering::Relaxed);
         }
     }
+}
+
+impl<'a, R: Clock> EndingGate for Counting<'a, R> {
+    ghost never_fails = { λ gate worker turn stops. stops };
 }

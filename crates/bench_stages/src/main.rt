@@ -9,7 +9,7 @@ use bench_input::{status_of, task_in, ties_of, words_of_call};
 use cert_value::CertificateKind;
 use fdr::FdrTask;
 use optplan_device::{Device, ProcessDevice};
-use optplan_sas::{Found, MAX_WORKERS, Options, SearchFault, Tables, found_by_threads};
+use optplan_solver::{Answer, Found, MAX_WORKERS, Options, SearchFault, Tables, found_by_threads};
 use std::alloc::{AllocError, Global};
 use std::process::ExitCode;
 use std::sync::Wait;
@@ -19,9 +19,9 @@ use std::time::Clock;
 /// Returns the line for what a search has found.
 fn line_of(alloc: Global, found: &Found) -> Result<String, AllocError> {
     match found {
-        Found::Solved(solution) => format!(in alloc; "settled {}\n", solution.found.cost),
-        Found::Unsolvable(_) => String::from_str(alloc, "settled infinite\n"),
-        Found::Stopped(known) => format!(in alloc; "at least {}\n", known.bound),
+        Answer::Solved(solution) => format!(in alloc; "settled {}\n", solution.found.cost),
+        Answer::Unsolvable(_) => String::from_str(alloc, "settled infinite\n"),
+        Answer::Limit(known) => format!(in alloc; "at least {}\n", known.bound),
     }
 }
 

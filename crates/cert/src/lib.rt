@@ -8,6 +8,8 @@ mod sorting;
 mod states;
 mod tables;
 
+pub use cert_text::{CertFault, MAX_LENGTH, read_cert};
+pub use cert_writer::write_cert;
 pub use laws::{
     finished_list_has_text, finished_list_is_held, order_does_not_matter, sorted_once_rises,
 };

@@ -1,4 +1,3 @@
-pub mod ShortTexts
-pub mod FirstFound
-pub mod ClassRows
+pub mod Lists
+pub mod Verdicts
 pub mod OneAnswer

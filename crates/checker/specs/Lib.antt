@@ -1,2 +1,3 @@
-pub mod Verdicts
+pub mod Naming
+pub mod Judgements
 pub mod Answers

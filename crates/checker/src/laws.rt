@@ -1,19 +1,12 @@
 //! Laws of verdicts.
 
-ghost use Rattle.std.specs.Prelude.{◌≡◌, ◌<◌, ◌-◌, ◌^◌, ℕ, List, length};
-ghost use Rattle.fdr.specs.Tasks.{FiniteDomainTask};
-ghost use Rattle.cert_value.specs.Certificates.{CertificateValue};
-ghost use Rattle.checker.specs.Verdicts.{IsVerdict};
+ghost use Rattle.std.specs.Prelude.{◌≡◌, ℕ, List};
+ghost use Rattle.checker.specs.Judgements.{verdict_text};
 ghost use Rattle.checker.specs.Answers.{IsAnswer};
-ghost use Rattle.checker.specs.declared.verdict.Verdict.{Verdict};
+ghost use Rattle.checker.specs.declared.verdict.PlanningVerdict.{PlanningVerdict};
 
-/// Proves that a certificate has at most one verdict for a task.
-#[tactic(auto, using(crate::proofs::OneAnswer::one_verdict))]
-pub fn one_verdict()
-    ensures { (task : FiniteDomainTask) (c : CertificateValue) (v w : Verdict) → IsVerdict task c v → IsVerdict task c w → v ≡ w }
-{}
-
-/// Proves that the text of a task, if it fits in memory, and the text of a certificate have at most one answer.
+/// Proves that the texts of a domain, a problem and a certificate have at most one verdict, as it is printed.
 pub fn one_answer()
-    ensures { (sas cert : List ℕ) (v w : Verdict) → length sas < 2 ^ 64 - 1 → IsAnswer sas cert v → IsAnswer sas cert w → v ≡ w }
+    ensures { (domain problem cert : List ℕ) (v w : PlanningVerdict) → IsAnswer domain problem cert v → IsAnswer domain problem cert w →
+        verdict_text v ≡ verdict_text w }
 {}

@@ -9,8 +9,8 @@ use Rattle.owner.specs.Owned.{OwnerOf, IsRefusal}
 use Rattle.extract.specs.Ends.{EndOf, IsSettledAnswer}
 use Rattle.extract.proofs.Places.{all_at, each_at, at_below, at_some}
 use Rattle.worker.specs.Workers.{WorkerOf, sent_to, received_from}
-use Rattle.engine_team.specs.Teams.{TeamOf, values_on, AreEmpty}
-use Rattle.engine_team.specs.Asking.{HasAnswered, IsAsked}
+use Rattle.engine.specs.Teams.{TeamOf, values_on, AreEmpty}
+use Rattle.engine.specs.Asking.{HasAnswered, IsAsked}
 use Rattle.engine.specs.Searches.{IsEndIn, IsRefusedBy, IsRefusedEnd}
 use Rattle.engine.specs.Steps.{IsTeamIn, IsReadyIn}
 

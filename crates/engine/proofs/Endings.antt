@@ -11,9 +11,9 @@ use Rattle.extract.specs.Ends.{EndOf, IsForm, IsEndOf, IsSettledAnswer, space_at
 use Rattle.extract.proofs.Places.{all_at}
 use Rattle.worker.specs.Workers.{WorkerOf}
 use Rattle.engine_round.specs.Turns.{MayStop}
-use Rattle.engine_team.specs.Teams.{TeamOf, IsFirstTeam}
-use Rattle.engine_team.specs.Draining.{IsDrained}
-use Rattle.engine_team.proofs.Joining.{end_of}
+use Rattle.engine.specs.Teams.{TeamOf, IsFirstTeam}
+use Rattle.engine.specs.Draining.{IsDrained}
+use Rattle.engine.proofs.Joining.{end_of}
 use Rattle.engine.specs.declared.searches.Outcome.{Outcome}
 use Rattle.engine.specs.declared.searches.Outcome.TheVariants.{Next, Last}
 use Rattle.engine.specs.declared.searched.Cause.{Cause}

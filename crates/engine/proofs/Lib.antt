@@ -1,3 +1,16 @@
+pub mod Places
+pub mod Taking
+pub mod Fitting
+pub mod Members
+pub mod Matching
+pub mod Beside
+pub mod Emptying
+pub mod Receiving
+pub mod Choice
+pub mod Joining
+pub mod Settling
+pub mod Asking
+pub mod Starting
 pub mod Rounds
 pub mod Asked
 pub mod Endings

@@ -19,8 +19,8 @@ use Rattle.engine_round.specs.Rounds.{RoundEndOf, HasPlayed, IsEndedBy, first_fa
 use Rattle.engine_round.specs.declared.gate.Stop.TheVariants.{Fail, Limit, Stage}
 use Rattle.engine_round.specs.declared.fault.TurnFault.{TurnFault}
 use Rattle.engine_round.specs.declared.fault.TurnFault.TheVariants.{Owner, Gate}
-use Rattle.engine_team.specs.Teams.{TeamOf, IsTeam, IsMember, AreAllLinked}
-use Rattle.engine_team.proofs.Members.{linked_after}
+use Rattle.engine.specs.Teams.{TeamOf, IsTeam, IsMember, AreAllLinked}
+use Rattle.engine.proofs.Members.{linked_after}
 use Rattle.engine.specs.declared.fault.EngineFault.{EngineFault}
 use Rattle.engine.specs.declared.fault.EngineFault.TheVariants as engine
 use Rattle.engine.specs.declared.searched.Cause.TheVariants as cause

@@ -5,7 +5,7 @@ use Rattle.engine_round.specs.Turns.{MayStop}
 use Rattle.engine_round.specs.declared.gate.Stop.TheVariants.{Fail, Limit, Stage}
 use Rattle.engine_round.specs.declared.fault.TurnFault.{TurnFault}
 use Rattle.engine_round.specs.declared.fault.TurnFault.TheVariants.{Owner, Gate}
-use Rattle.engine_team.specs.Teams.{TeamOf}
+use Rattle.engine.specs.Teams.{TeamOf}
 use Rattle.engine.specs.declared.fault.EngineFault.{EngineFault}
 use Rattle.engine.specs.declared.fault.EngineFault.TheVariants as engine
 use Rattle.engine.specs.declared.halt.Halt.{Halt}

@@ -2,12 +2,17 @@
 //! and Botea 2013).
 #![tactic(auto)]
 
+mod ask;
+mod drain;
 mod fault;
 mod halt;
+mod join;
 mod searched;
 mod searches;
+mod settled;
+mod team;
 
-pub use engine_round::{Gate, Open, Progress, Stop};
+pub use engine_round::{EndingGate, Gate, Open, Progress, Stop};
 pub use fault::EngineFault;
 pub use searched::{Cause, Searched};
 pub use searches::search;

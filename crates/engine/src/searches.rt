@@ -4,15 +4,15 @@ ghost use Rattle.std.specs.Prelude.{◌≡◌, ◌<◌, [], None, length, map, A
 ghost use Rattle.fdr.specs.Tasks.{ranges};
 ghost use Rattle.owner.specs.Spaces.{searched};
 ghost use Rattle.extract.specs.Ends.{IsSettledAnswer};
-ghost use Rattle.engine_team.specs.Teams.{AreEmpty};
+ghost use Rattle.engine.specs.Teams.{AreEmpty};
 ghost use Rattle.engine.specs.Searches.{IsSearched, IsSearchFault};
 ghost use Rattle.engine.specs.Steps.{no_stop, IsHalt, IsTeamIn, IsOutcome};
 
 use crate::fault::EngineFault;
 use crate::halt::{Halt, halt_of};
 use crate::searched::{Cause, Searched};
+use crate::team::{Parts, Team};
 use engine_round::{Gate, RoundEnd, round};
-use engine_team::{Parts, Team};
 use owner::{OwnerFault, Space};
 use packed::StateForm;
 use packed_spread::Spread;

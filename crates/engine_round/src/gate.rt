@@ -51,6 +51,15 @@ pub trait Gate {
     fn stage_begins(&self, _stage: usize, _tables: usize, _abstract_states: usize) {}
 }
 
+/// A gate that never makes a search fail: if it ends one, what was reached is not lost.
+pub trait EndingGate: Gate {
+    ghost use Rattle.std.specs.Prelude.{ℕ};
+    ghost use Rattle.engine_round.specs.declared.gate.Stop.TheVariants.{Fail};
+
+    /// The gate never ends a search as failed.
+    ghost never_fails: { (gate : Self) (worker turn : ℕ) → Self.Gate.may_stop gate worker turn Fail → ⊥ };
+}
+
 /// The gate that never ends a search.
 #[derive(Clone, Copy, Debug, Drop)]
 pub struct Open;
@@ -65,4 +74,8 @@ impl Gate for Open {
     fn never_limits(&self) -> bool {
         true
     }
+}
+
+impl EndingGate for Open {
+    ghost never_fails = { λ gate worker turn stops. stops };
 }

@@ -17,6 +17,6 @@ mod turns;
 mod work;
 
 pub use fault::TurnFault;
-pub use gate::{Gate, Open, Stop};
+pub use gate::{EndingGate, Gate, Open, Stop};
 pub use progress::Progress;
 pub use rounds::{RoundEnd, round};

@@ -1,6 +1,3 @@
-pub mod PlaceLaws
-pub mod IndexLaws
-pub mod TestLaws
-pub mod GroupLaws
-pub mod SpanLaws
-pub mod SetLaws
+pub mod CandidateLaws
+pub mod InstanceLaws
+pub mod ProposalLaws

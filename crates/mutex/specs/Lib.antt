@@ -1,4 +1,4 @@
-pub mod Groups
-pub mod Places
-pub mod Tables
-pub mod Spans
+pub mod Candidates
+pub mod Examples
+pub mod Proposals
+pub mod Steps

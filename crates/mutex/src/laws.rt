@@ -1,27 +1,16 @@
-//! Laws of mutex groups, for every task.
+//! Worked examples of groups.
 
-ghost use Rattle.std.specs.Prelude.{◌≡◌, true, List, Some, All, Contains};
-ghost use Rattle.std.specs.List.{list_any};
-ghost use Rattle.pddl_task.specs.Atoms.{Atom, State, contains, at_most_one};
-ghost use Rattle.pddl_task.specs.Planning.{PlanningTask, Action};
-ghost use Rattle.pddl_task.specs.Plans.{state_after};
-ghost use Rattle.mutex.specs.Groups.{is_usable, is_full, is_constant};
+ghost use Rattle.std.specs.Prelude.{◌≡◌, [], ◌∷◌};
+ghost use Rattle.mutex.specs.Candidates.{bound_at, free_part, candidates, proposed_groups};
+ghost use Rattle.mutex.specs.Examples.{two_balls, with_two_balls};
 
-/// Proves that, in every state that a sequence of the actions reaches from the initial state, at most one atom of a
-/// usable group is true, and at least one atom of a full group.
-pub fn groups_are_exclusive()
-    ensures one { (task : PlanningTask) (actions : List Action) (group : List Atom) → is_usable task actions group ≡ true →
-        (plan : List Action) (state : State) → All (Contains actions) plan →
-        state_after (contains task.initial) plan ≡ Some state → at_most_one state group ≡ true }
-    ensures some { (task : PlanningTask) (actions : List Action) (group : List Atom) → is_full task actions group ≡ true →
-        (plan : List Action) (state : State) → All (Contains actions) plan →
-        state_after (contains task.initial) plan ≡ Some state → list_any state group ≡ true }
-{}
-
-/// Proves that, in every state that a sequence of the actions reaches from the initial state, each constant atom is
-/// true.
-pub fn constants_stay_true()
-    ensures { (task : PlanningTask) (actions : List Action) (p : Atom) → is_constant task actions p ≡ true →
-        (plan : List Action) (state : State) → All (Contains actions) plan →
-        state_after (contains task.initial) plan ≡ Some state → state p ≡ true }
+/// Proves a worked example: with two balls, two rooms and a gripper the candidates with a parameter are, by predicate:
+/// in with the ball bound, in with the room bound, held; then in and held in both ways. The candidates without one are
+/// held, free, and both. Three groups are proposed: for each ball that it is in a room or held, and that one ball is
+/// held or the gripper is free.
+pub fn worked_balls()
+    ensures candidates { candidates two_balls ≡ (bound_at 0 0 ∷ []) ∷ (bound_at 0 1 ∷ []) ∷ (bound_at 1 0 ∷ [])
+        ∷ (bound_at 0 0 ∷ bound_at 1 0 ∷ []) ∷ (bound_at 0 1 ∷ bound_at 1 0 ∷ [])
+        ∷ (free_part 1 ∷ []) ∷ (free_part 2 ∷ []) ∷ (free_part 1 ∷ free_part 2 ∷ []) ∷ [] }
+    ensures groups { proposed_groups with_two_balls ≡ (0 ∷ 1 ∷ 4 ∷ []) ∷ (2 ∷ 3 ∷ 5 ∷ []) ∷ (4 ∷ 5 ∷ 6 ∷ []) ∷ [] }
 {}

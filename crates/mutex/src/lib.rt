@@ -1,13 +1,15 @@
-//! Mutex groups: lists of atoms of which at most one is true at a time, tested by examining the actions that add or
-//! remove them.
+//! Mutex groups: those that are proposed, from sets of predicates with one argument in common, instantiated for each
+//! object; and the test of whether a list of atoms is one.
 #![tactic(auto)]
 
-mod build;
-mod index;
+mod candidates;
+mod group_list;
+mod instances;
 pub mod laws;
-mod row;
-mod rows;
-mod tables;
+mod parts;
+mod proposals;
 
-pub use index::ActionIndex;
-pub use laws::{constants_stay_true, groups_are_exclusive};
+pub use candidates::MAX_CANDIDATES;
+pub use group_list::{Group, Groups};
+pub use mutex_index::{ActionIndex, constants_stay_true, groups_are_exclusive};
+pub use proposals::groups;

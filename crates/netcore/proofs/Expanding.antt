@@ -202,9 +202,9 @@ module _ {S : Type 0} (owner : S → List ℕ → ℕ → ℕ) where
     at_owner_here old v o b _ at seen ∙ ap not (subst (λ s. no_open s (under o b) ≡ false) (owner_space old v o is at) some),
     unchanged,
   )
-  refusal_at old v o p b LimitReached new is at seen (some, limit, same) unchanged = (v, o, b, refl, at, seen, (some, limit, refl), unchanged)
+  refusal_at old v o p b LimitReached new is at seen (some, limit, same) unchanged = (v, o, b, refl, at, seen, is.spaces v o at, (some, limit, refl), unchanged)
   refusal_at old v o p b TotalTooLarge new is at seen (i, n, next, allowed, large, same) unchanged =
-      (v, o, b, refl, at, seen, (i, n, next, allowed, large, refl), unchanged)
+      (v, o, b, refl, at, seen, is.spaces v o at, (i, n, next, allowed, large, refl), unchanged)
 
   expand_refused_same : (old : WorldOf S) (v : ℕ) (o p : OwnerOf S) (b : Distance) (e : OwnerFault) → At old.owners v o
       → IsRefusal owner b o p e → with_owner old v p ≡ old

@@ -45,13 +45,13 @@ module _ {S : Type 0} (owner : S → List ℕ → ℕ → ℕ) where
   pub limited_at : (over : SpaceOf S) (n : ℕ) (asked : List WorldStep) (i : ℕ) (step d : WorldStep) (old new : WorldOf S) → i < length asked
       → step ≡ get_or asked i d → IsWorldAfter owner over n (take i asked) old → IsStepRefusal owner old new step LimitReached
       → IsRefusedStep owner over n asked new LimitReached
-  limited_at over n asked i step d old new lt is world (v, o, b, asks, at, seen, refusal, same) =
+  limited_at over n asked i step d old new lt is world (v, o, b, asks, at, seen, own, refusal, same) =
       subst (λ (w : WorldOf S). IsRefusedStep owner over n asked w LimitReached) (sym same)
-      (refused_at over n asked i step d old LimitReached lt is world (v, o, b, asks, at, seen, refusal, refl))
+      (refused_at over n asked i step d old LimitReached lt is world (v, o, b, asks, at, seen, own, refusal, refl))
 
   -- a step leads past the greatest total
   pub too_large_at : (over : SpaceOf S) (n : ℕ) (asked : List WorldStep) (i : ℕ) (step d : WorldStep) (old new : WorldOf S) → i < length asked
       → step ≡ get_or asked i d → IsWorldAfter owner over n (take i asked) old → IsStepRefusal owner old new step TotalTooLarge
       → IsRunRefusal owner over n asked TotalTooLarge
-  too_large_at over n asked i step d old new lt is world (v, o, b, asks, at, seen, refusal, same) =
-      (old, refused_at over n asked i step d old TotalTooLarge lt is world (v, o, b, asks, at, seen, refusal, refl))
+  too_large_at over n asked i step d old new lt is world (v, o, b, asks, at, seen, own, refusal, same) =
+      (old, refused_at over n asked i step d old TotalTooLarge lt is world (v, o, b, asks, at, seen, own, refusal, refl))

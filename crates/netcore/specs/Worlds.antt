@@ -97,13 +97,13 @@ would_change owner w (Look v) = at_owner w v (λ o b. differ b w.bound)
 would_change owner w (Rest v) =
     at_owner w v (λ o b. option_map_or not (slice_get w.resting v) false && idle (space_in owner w) (under o b))
 
--- a step is refused as the owner that is to expand its next node refuses it, or because an allocation failed; the world
--- is unchanged
+-- a step is refused as the owner that is to expand its next node, by the limit and the columns of the world's space,
+-- refuses it, or because an allocation failed; the world is unchanged
 abbrev pub IsStepRefusal : {S : Type 0} → (S → List ℕ → ℕ → ℕ) → WorldOf S → WorldOf S → WorldStep → OwnerFault → Type 0
 IsStepRefusal {S = S} owner old new asked OutOfMemory = (would_change owner old asked ≡ true) × (new ≡ old)
 IsStepRefusal {S = S} owner old new asked e =
     (v : ℕ) × (o : OwnerOf S) × (b : Distance) × (asked ≡ Expand v) × At old.owners v o × At old.seen v b
-    × IsRefusal owner b o o e × (new ≡ old)
+    × (o.space ≡ old.space) × IsRefusal owner b o o e × (new ≡ old)
 
 -- a world of n owners of this space, after these steps
 pub record IsWorldAfter {S : Type 0} (owner : S → List ℕ → ℕ → ℕ) (over : SpaceOf S) (n : ℕ) (asked : List WorldStep) (w : WorldOf S) : Type 0 where

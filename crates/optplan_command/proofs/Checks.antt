@@ -1,11 +1,11 @@
 -- The files that a check reads, and their texts' refusals.
 use Rattle.std.proofs.Common.{◌≢◌, ℕ, List, sym, subst}
-use Rattle.sasfile.specs.declared.fault.SasFault.{SasFault}
-use Rattle.sasfile.specs.declared.fault.SasFault.TheVariants as sas
+use Rattle.sasfile_reader.specs.declared.fault.SasFault.{SasFault}
+use Rattle.sasfile_reader.specs.declared.fault.SasFault.TheVariants as sas
 use Rattle.cert_text.specs.declared.fault.CertFault.{CertFault}
 use Rattle.cert_text.specs.declared.fault.CertFault.TheVariants as cert
-use Rattle.checker.specs.declared.fault.CheckFault.{CheckFault}
-use Rattle.checker.specs.declared.fault.CheckFault.TheVariants as check
+use Rattle.checker_fdr.specs.declared.fault.CheckFault.{CheckFault}
+use Rattle.checker_fdr.specs.declared.fault.CheckFault.TheVariants as check
 use Rattle.optplan_replies.specs.declared.fault.Fault.{Fault}
 use Rattle.optplan_replies.specs.declared.status.Status.TheVariants.{DeviceFailed}
 use Rattle.optplan_replies.specs.Faults.{fault_status, fault_of_sas, fault_of_cert, fault_of_check}

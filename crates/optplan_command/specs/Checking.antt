@@ -2,11 +2,11 @@
 -- what the command does.
 use Rattle.std.specs.Prelude.{◌≡◌, ℕ, true, List, [], ◌∷◌, ◌++◌, codes}
 use Rattle.optplan_device.specs.Events.{Event, HasRead}
-use Rattle.checker.specs.Verdicts.{verdict_text}
-use Rattle.checker.specs.Answers.{IsAnswer, IsRefusal}
-use Rattle.checker.specs.declared.verdict.Verdict.{Verdict}
-use Rattle.checker.specs.declared.verdict.Verdict.TheVariants.{Accepted, Rejected}
-use Rattle.checker.specs.declared.fault.CheckFault.{CheckFault}
+use Rattle.checker_fdr.specs.Verdicts.{verdict_text}
+use Rattle.checker_fdr.specs.Answers.{IsAnswer, IsRefusal}
+use Rattle.checker_fdr.specs.declared.verdict.Verdict.{Verdict}
+use Rattle.checker_fdr.specs.declared.verdict.Verdict.TheVariants.{Accepted, Rejected}
+use Rattle.checker_fdr.specs.declared.fault.CheckFault.{CheckFault}
 use Rattle.optplan_replies.specs.declared.fault.Fault.{Fault}
 use Rattle.optplan_replies.specs.declared.status.Status.{Status}
 use Rattle.optplan_replies.specs.declared.status.Status.TheVariants as exit

@@ -1,5 +1,6 @@
 -- The options of a solve command.
-use Rattle.std.specs.Prelude.{◌≡◌, ℕ, ◌≤◌, ◌<◌, ◌^◌, Bool, true, false, ◌||◌, is_some, List, [], ◌∷◌, Option, Some, None, codes}
+use Rattle.std.specs.Prelude.{◌≡◌, ℕ, ◌≤◌, ◌<◌, ◌^◌, Bool, true, false, ◌&&◌, ◌||◌, not, is_some, List, [], ◌∷◌, Option, Some, None, codes}
+use Rattle.std.specs.Str.{bytes_eq}
 use Rattle.std.specs.Str.Parse.{IsNumeral, digits_value}
 use Rattle.owner_space.specs.declared.ties.Ties.{Ties}
 use Rattle.owner_space.specs.declared.ties.Ties.TheVariants.{Shallow, Deep, Fresh}
@@ -99,8 +100,26 @@ pub record IsScheduleOf (value : List ℕ → Option (List ℕ)) (schedule : Sch
   pub mebibytes_are : IsNumberOf 0 9223372036854775807 (value (codes "memory")) mebibytes
   pub is : schedule ≡ schedule_by seed seconds mebibytes
 
+-- the file has this name
+abbrev pub is_same : Option (List ℕ) → List ℕ → Bool
+is_same None name = false
+is_same (Some other) name = bytes_eq other name
+
+-- a file of this name, which is written, is read too, or is this other one that is written; but `/dev/null` never is
+abbrev pub is_taken : (List ℕ → Option (List ℕ)) → Option (List ℕ) → List ℕ → Bool
+is_taken value other name =
+    not (bytes_eq name (codes "/dev/null"))
+    && (is_same (value (codes "DOMAIN")) name || (is_same (value (codes "PROBLEM")) name || (is_same (value (codes "SAS")) name || is_same other name)))
+
+-- the same, if there is such a file
+abbrev pub has_taken : (List ℕ → Option (List ℕ)) → Option (List ℕ) → Option (List ℕ) → Bool
+has_taken value other None = false
+has_taken value other (Some name) = is_taken value other name
+
 -- the request apart from the task, from the values of the command's options
 pub record AreSettingsOf (value : List ℕ → Option (List ℕ)) (settings : Settings) : Type 0 where
   pub choices : AreChoicesOf value settings.options
   pub schedule : IsScheduleOf value settings.schedule
   pub files : files_of settings ≡ record { plan = value (codes "plan"); cert = value (codes "cert") }
+  pub cert_is_own : has_taken value None (value (codes "cert")) ≡ false
+  pub plan_is_own : has_taken value (value (codes "cert")) (value (codes "plan")) ≡ false

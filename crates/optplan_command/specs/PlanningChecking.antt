@@ -2,11 +2,11 @@
 -- what the command does.
 use Rattle.std.specs.Prelude.{◌≡◌, ℕ, true, List, [], ◌∷◌, ◌++◌, codes}
 use Rattle.optplan_device.specs.Events.{Event}
-use Rattle.checker_pddl.specs.Judgements.{verdict_text}
-use Rattle.checker_pddl.specs.Answers as checked
-use Rattle.checker_pddl.specs.declared.verdict.PlanningVerdict.{PlanningVerdict}
-use Rattle.checker_pddl.specs.declared.verdict.PlanningVerdict.TheVariants.{Accepted, Rejected}
-use Rattle.checker_pddl.specs.declared.fault.PlanningCheckFault.TheVariants as check
+use Rattle.checker.specs.Judgements.{verdict_text}
+use Rattle.checker.specs.Answers as checked
+use Rattle.checker.specs.declared.verdict.PlanningVerdict.{PlanningVerdict}
+use Rattle.checker.specs.declared.verdict.PlanningVerdict.TheVariants.{Accepted, Rejected}
+use Rattle.checker.specs.declared.fault.PlanningCheckFault.TheVariants as check
 use Rattle.optplan_replies.specs.declared.status.Status.{Status}
 use Rattle.optplan_replies.specs.declared.status.Status.TheVariants as exit
 use Rattle.optplan_replies.specs.Reports.{IsTaskReport}

@@ -5,7 +5,7 @@ use Rattle.optplan_device.specs.Events.{Event}
 use Rattle.pddl_task.specs.Planning.{PlanningTask}
 use Rattle.pddl.specs.Texts.{SpellTask}
 use Rattle.translate.specs.Translated.{TranslatedTask, IsTranslation, HasSamePlans, IsUntranslated}
-use Rattle.translate_vars.specs.declared.fault.TranslateFault.TheVariants as translating
+use Rattle.translate.specs.declared.fault.SizeFault.TheVariants as translating
 use Rattle.sasfile_writer.specs.Written.{written}
 use Rattle.optplan_replies.specs.declared.status.Status.{Status}
 use Rattle.optplan_replies.specs.declared.status.Status.TheVariants.{Done}

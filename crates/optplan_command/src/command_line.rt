@@ -8,6 +8,7 @@ ghost use Rattle.clap.specs.declared.error.kind.ErrorKind.TheVariants.{DisplayHe
 ghost use Rattle.pddl_names.specs.Names.{texts_of};
 ghost use Rattle.optplan_words.specs.Commands.{program};
 ghost use Rattle.optplan_device.specs.Events.{Event};
+ghost use Rattle.optplan_replies.specs.Runs.{IsUnput};
 ghost use Rattle.optplan_optimal.specs.Running.{AskForOptimality, JudgesOptimality};
 ghost use Rattle.optplan_command.specs.Validation.{AskForValidation, Validates};
 ghost use Rattle.optplan_command.specs.Checking.{AskForCheck, Checks};
@@ -46,6 +47,8 @@ fn run_words<D: Device, R: Threads + Wait + Clock + Eprint + Sync + AllocGlobal>
         ((name : List ℕ) (rows : List Row) → subcommand_of program (texts_of words.now) ≡ Some (name, rows) → IsRefusedRequest name (value_in rows)))) }
     ensures counted { IfOk result (λ status. status ≡ Status.DeviceFailed → D.failure_count device.old + 1 ≤ D.failure_count device.new) }
     ensures same { OnErr result (D.failure_count device.new ≡ D.failure_count device.old) }
+    ensures kept { OnErr result (D.history device.new ≡ D.history device.old) }
+    ensures unput { IfOk result (λ status. status ≡ Status.OutOfMemory → IsUnput (D.history device.old) (D.history device.new)) }
 {
     let matches = requested(rt.alloc(), words)?;
     let Some((name, words)) = matches.subcommand() else {
@@ -66,6 +69,7 @@ fn show<D: Device>(alloc: Global, device: &mut D, error: &Error) -> Status
     ensures memory { kind_of error.now ≡ OutOfMemory → result ≡ Status.OutOfMemory }
     ensures misused { kind_of error.now ≢ DisplayHelp → kind_of error.now ≢ DisplayVersion → (result ≡ Status.Misused) ⊎ (result ≡ Status.OutOfMemory) }
     ensures counted { result ≡ Status.DeviceFailed → D.failure_count device.old + 1 ≤ D.failure_count device.new }
+    ensures unput { result ≡ Status.OutOfMemory → IsUnput (D.history device.old) (D.history device.new) }
 {
     let Ok(text) = format!(in alloc; "{error}") else {
         return report(alloc, device, &Fault::OutOfMemory);
@@ -118,6 +122,7 @@ pub fn run<D: Device, R: Threads + Wait + Clock + Eprint + Sync + AllocGlobal>(
     ensures misuses { IsNotPlain (texts_of words.now) → IsMisuse (fault_of program (texts_of words.now)) →
         (result ≡ Status.Misused) ⊎ (result ≡ Status.OutOfMemory) }
     ensures device_failed { result ≡ Status.DeviceFailed → D.failure_count device.old + 1 ≤ D.failure_count device.new }
+    ensures unput { result ≡ Status.OutOfMemory → IsUnput (D.history device.old) (D.history device.new) }
 {
     if let Some(command) = plain_command(words) {
         return run_files(rt, device, command);

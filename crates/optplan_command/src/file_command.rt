@@ -3,14 +3,14 @@
 ghost use Rattle.std.specs.Prelude.{◌≡◌, ◌≢◌, ◌≤◌, ◌+◌, ℕ, List, [], ◌∷◌, Some};
 ghost use Rattle.pddl_names.specs.Names.{texts_of};
 ghost use Rattle.optplan_device.specs.Events.{Event};
-ghost use Rattle.optplan_replies.specs.Runs.{is_operand};
+ghost use Rattle.optplan_replies.specs.Runs.{is_operand, IsUnput};
 ghost use Rattle.optplan_command.specs.FileCommands.{IsRequested, DoesCommand};
 
-use crate::checking::run_check;
-use crate::migration::run_migration;
-use crate::planning_check::run_planning_check;
-use crate::translation::run_translation;
-use crate::validation::run_validation;
+use crate::run_check::run_planning_check;
+use crate::run_check_sas::run_check;
+use crate::run_migrate_cert::run_migration;
+use crate::run_translate::run_translation;
+use crate::run_validate::run_validation;
 use optplan_device::Device;
 use optplan_optimal::run_optimality;
 use optplan_replies::Status;
@@ -48,7 +48,7 @@ pub(crate) enum FileCommand<'a> {
         domain: &'a str,
         problem: &'a str,
     },
-    /// Prints a certificate as version 2.
+    /// Prints a certificate, one of version 1 as version 2.
     MigrateCert {
         cert: &'a str,
     },
@@ -186,6 +186,7 @@ pub(crate) fn run_files<D: Device, R: AllocGlobal + Threads + Sync>(
     ensures done { (h : List Event) → D.history device.old ≡ Some h → D.failure_count device.new ≡ D.failure_count device.old → result ≢ Status.OutOfMemory →
         (new : List Event) × (D.history device.new ≡ Some new) × DoesCommand h new command.entry result }
     ensures device_failed { result ≡ Status.DeviceFailed → D.failure_count device.old + 1 ≤ D.failure_count device.new }
+    ensures unput { result ≡ Status.OutOfMemory → IsUnput (D.history device.old) (D.history device.new) }
 {
     match command {
         FileCommand::Validate {

@@ -1,17 +1,17 @@
 //! The values of options.
 
-ghost use Rattle.std.specs.Prelude.{◌≡◌, ◌≢◌, ◌≤◌, ◌⊎◌, ℕ, Bool, Option, IfOk, IfErr, IfSome, IfNone, SomeIff, codes};
+ghost use Rattle.std.specs.Prelude.{◌≡◌, ◌≢◌, ◌≤◌, ◌⊎◌, ℕ, Bool, true, false, Option, option_map, IfOk, IfErr, IfSome, IfNone, SomeIff, codes};
 ghost use Rattle.std.specs.Str.Parse.{digits_value};
 ghost use Rattle.clap.specs.Matches.{found_of, first_value};
 ghost use Rattle.clap.specs.Words.{kind_of};
 ghost use Rattle.clap.specs.declared.error.kind.ErrorKind.TheVariants.{OutOfMemory, ValueValidation};
 ghost use Rattle.owner_space.specs.declared.ties.Ties.{Ties as TiesOf};
 ghost use Rattle.optplan_options.specs.declared.options.Tables.{Tables as TablesOf};
-ghost use Rattle.optplan_command.specs.Options.{IsNumberIn, IsNumberOf, NamesTies, IsTiesOf, NamesTables, IsTablesOf, NamesReduction, IsReductionOf};
+ghost use Rattle.optplan_command.specs.Options.{IsNumberIn, IsNumberOf, NamesTies, IsTiesOf, NamesTables, IsTablesOf, NamesReduction, IsReductionOf, is_same, is_taken, has_taken};
 
 use clap::error::ErrorKind;
 use clap::{ArgMatches, Command, Error};
-use optplan_sas::{Tables, Ties};
+use optplan_solver::{Tables, Ties};
 use std::alloc::{AllocError, Global};
 
 /// The type of an option's value.
@@ -29,6 +29,8 @@ enum Taken {
     Reduction,
     /// That there is no reduction, which another option requires.
     NoReduction,
+    /// A file that is not read, and not written for another option.
+    OwnFile,
 }
 
 /// A value that is refused for an option.
@@ -68,6 +70,9 @@ impl<'a> RefusedValue<'a> {
             ),
             Taken::NoReduction => format!(in alloc;
                 "invalid value '{value}' for '--{option}': only off goes with --simulate"
+            ),
+            Taken::OwnFile => format!(in alloc;
+                "invalid value '{value}' for '--{option}': the file is also read, or written for another option"
             ),
         };
         let Ok(message) = message else {
@@ -236,4 +241,49 @@ pub(crate) fn reduction_for<'a>(
         value,
         taken,
     })
+}
+
+/// Returns whether the file has this name.
+fn is_same(other: Option<&str>, name: &str) -> bool
+    ensures { result ≡ is_same (option_map (λ o. o.now) other.entry) name.now }
+{
+    match other {
+        Some(other) => other == name,
+        None => false,
+    }
+}
+
+/// Returns whether a file of this name is read, or is this other one that is written; `/dev/null` never is.
+fn is_taken(words: &ArgMatches<'_>, other: Option<&str>, name: &str) -> bool
+    ensures { result ≡ is_taken (λ id. first_value (found_of words.now) id) (option_map (λ o. o.now) other.entry) name.now }
+{
+    name != "/dev/null"
+        && (is_same(words.get_str("DOMAIN"), name)
+            || is_same(words.get_str("PROBLEM"), name)
+            || is_same(words.get_str("SAS"), name)
+            || is_same(other, name))
+}
+
+/// Returns the name of the file to be written, if there is one. Fails if the file is read too, or is this other one
+/// that is written.
+pub(crate) fn own_file<'a>(
+    words: &ArgMatches<'a>,
+    option: &'a str,
+    other: Option<&str>,
+) -> Result<Option<&'a str>, RefusedValue<'a>>
+    ensures name { IfOk result (λ name. option_map (λ n. n.now) name ≡ first_value (found_of words.now) option.entry.now) }
+    ensures own { IfOk result (λ _. has_taken (λ id. first_value (found_of words.now) id) (option_map (λ o. o.now) other.entry) (first_value (found_of words.now) option.entry.now) ≡ false) }
+    ensures refused { IfErr result (λ _. has_taken (λ id. first_value (found_of words.now) id) (option_map (λ o. o.now) other.entry) (first_value (found_of words.now) option.entry.now) ≡ true) }
+{
+    let Some(name) = words.get_str(option) else {
+        return Ok(None);
+    };
+    if is_taken(words, other, name) {
+        return Err(RefusedValue {
+            option,
+            value: name,
+            taken: Taken::OwnFile,
+        });
+    }
+    Ok(Some(name))
 }

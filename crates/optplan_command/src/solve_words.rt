@@ -7,16 +7,17 @@ ghost use Rattle.clap.specs.declared.error.kind.ErrorKind.TheVariants.{OutOfMemo
 ghost use Rattle.optplan_options.specs.Choices.{Choices};
 ghost use Rattle.optplan_solve.specs.declared.settings.Schedule.{Schedule as ScheduleOf};
 ghost use Rattle.optplan_device.specs.Events.{Event};
+ghost use Rattle.optplan_replies.specs.Runs.{IsUnput};
 ghost use Rattle.optplan_command.specs.Options.{AreChoicesOf, IsScheduleOf, AreSettingsOf};
 ghost use Rattle.optplan_command.specs.SolveWords.{HasRefusedValue};
 ghost use Rattle.optplan_command.specs.SolvingCommands.{name_of, Solved};
 
-use crate::options::{RefusedValue, number_for, reduction_for, tables_for, ties_for};
+use crate::options::{RefusedValue, number_for, own_file, reduction_for, tables_for, ties_for};
 use clap::{ArgMatches, Command, Error};
 use optplan_device::Device;
 use optplan_replies::Status;
-use optplan_sas::{MAX_RING, MAX_TABLE, MAX_WORKERS, Options};
 use optplan_solve::{Schedule, Settings, Watch, run_solve, run_solve_sas};
+use optplan_solver::{MAX_RING, MAX_TABLE, MAX_WORKERS, Options};
 use optplan_words::{solve_command, solve_sas_command};
 use std::alloc::{AllocError, Global};
 use std::sync::Wait;
@@ -84,12 +85,14 @@ fn settings_of<'a>(words: &ArgMatches<'a>) -> Result<Settings<'a>, RefusedValue<
 {
     let schedule = schedule_of(words)?;
     let options = search_options(words)?;
+    let cert = own_file(words, "cert", None)?;
+    let plan = own_file(words, "plan", cert)?;
     Ok(Settings {
         options,
         schedule,
         progress: words.get_flag("progress"),
-        plan: words.get_str("plan"),
-        cert: words.get_str("cert"),
+        plan,
+        cert,
     })
 }
 
@@ -137,6 +140,8 @@ pub(crate) fn solve_by_words<D: Device, R: Threads + Wait + Clock + Eprint + Syn
     ensures counted { IfOk result (λ status. status ≡ Status.DeviceFailed → D.failure_count device.old + 1 ≤ D.failure_count device.new) }
     ensures same { OnErr result (D.failure_count device.new ≡ D.failure_count device.old) }
     ensures refused { IfErr result (λ e. (kind_of e ≡ OutOfMemory) ⊎ ((kind_of e ≡ ValueValidation) × HasRefusedValue (λ name. first_value (found_of words.now) name))) }
+    ensures kept { OnErr result (D.history device.new ≡ D.history device.old) }
+    ensures unput { IfOk result (λ status. status ≡ Status.OutOfMemory → IsUnput (D.history device.old) (D.history device.new)) }
 {
     let settings = match settings_of(words) {
         Ok(settings) => settings,

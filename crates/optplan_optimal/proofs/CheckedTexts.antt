@@ -11,13 +11,13 @@ use Rattle.translate_vars.specs.Faults.{IsFirstFault}
 use Rattle.translate_vars.specs.declared.fault.TranslateFault.{TranslateFault}
 use Rattle.translate_vars.specs.declared.fault.TranslateFault.TheVariants as fault
 use Rattle.translate_vars.proofs.StageLaws.{one_fault_of, none_if_fit}
-use Rattle.checker_pddl.specs.Judgements.{Judged, atoms_of, placed_of, IsPlaceOf, IsPlanningVerdict}
-use Rattle.checker_pddl.specs.Answers.{IsAnswer, IsRefusal, IsCertificateFault, AreSpelled}
-use Rattle.checker_pddl.specs.declared.fault.PlanningCheckFault.TheVariants as check
-use Rattle.checker_pddl.specs.declared.verdict.PlanningVerdict.{PlanningVerdict}
-use Rattle.checker_pddl.specs.declared.verdict.PlanningVerdict.TheVariants.{Accepted, Rejected}
-use Rattle.checker_pddl.specs.declared.verdict.PlanningViolation.{PlanningViolation}
-use Rattle.checker_pddl.specs.declared.verdict.PlanningViolation.TheVariants.{Atom, Variable, Uncovered, Task}
+use Rattle.checker.specs.Judgements.{Judged, atoms_of, placed_of, IsPlaceOf, IsPlanningVerdict}
+use Rattle.checker.specs.Answers.{IsAnswer, IsRefusal, IsCertificateFault, AreSpelled}
+use Rattle.checker.specs.declared.fault.PlanningCheckFault.TheVariants as check
+use Rattle.checker.specs.declared.verdict.PlanningVerdict.{PlanningVerdict}
+use Rattle.checker.specs.declared.verdict.PlanningVerdict.TheVariants.{Accepted, Rejected}
+use Rattle.checker.specs.declared.verdict.PlanningViolation.{PlanningViolation}
+use Rattle.checker.specs.declared.verdict.PlanningViolation.TheVariants.{Atom, Variable, Uncovered, Task}
 
 -- ---- the text of the certificate
 

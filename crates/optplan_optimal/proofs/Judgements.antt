@@ -18,10 +18,10 @@ use Rattle.validate.proofs.PlanLaws.{one_plan_is}
 use Rattle.validate.proofs.VerdictTheorem.{one_verdict_is}
 use Rattle.validate.specs.declared.plan.PlanFault.{PlanFault}
 use Rattle.validate.specs.declared.plan.PlanFault.TheVariants as plan_fault
-use Rattle.checker_pddl.specs.Answers as checked
-use Rattle.checker_pddl.specs.declared.fault.PlanningCheckFault.{PlanningCheckFault}
-use Rattle.checker_pddl.specs.declared.fault.PlanningCheckFault.TheVariants as check
-use Rattle.checker_pddl.specs.declared.verdict.PlanningVerdict.TheVariants.{Accepted}
+use Rattle.checker.specs.Answers as checked
+use Rattle.checker.specs.declared.fault.PlanningCheckFault.{PlanningCheckFault}
+use Rattle.checker.specs.declared.fault.PlanningCheckFault.TheVariants as check
+use Rattle.checker.specs.declared.verdict.PlanningVerdict.TheVariants.{Accepted}
 use Rattle.optplan_optimal.specs.declared.fault.OptimalityFault.{OptimalityFault}
 use Rattle.optplan_optimal.specs.declared.verdict.OptimalityVerdict.{OptimalityVerdict}
 use Rattle.optplan_optimal.specs.Faults.{fault_of_task, fault_of_plan, fault_of_check}

@@ -19,11 +19,11 @@ use Rattle.validate.specs.declared.verdict.Verdict.{Verdict}
 use Rattle.validate.specs.declared.verdict.Verdict.TheVariants.{Valid}
 use Rattle.validate.proofs.PlanLaws.{one_plan_is}
 use Rattle.validate.proofs.VerdictTheorem.{one_verdict_is}
-use Rattle.checker_pddl.specs.Answers as checked
-use Rattle.checker_pddl.specs.Judgements as judged
-use Rattle.checker_pddl.specs.declared.verdict.PlanningVerdict.{PlanningVerdict}
-use Rattle.checker_pddl.specs.declared.verdict.PlanningVerdict.TheVariants.{Accepted, Rejected}
-use Rattle.checker_pddl.proofs.OneAnswer as checker_laws
+use Rattle.checker.specs.Answers as checked
+use Rattle.checker.specs.Judgements as judged
+use Rattle.checker.specs.declared.verdict.PlanningVerdict.{PlanningVerdict}
+use Rattle.checker.specs.declared.verdict.PlanningVerdict.TheVariants.{Accepted, Rejected}
+use Rattle.checker.proofs.OneAnswer as checker_laws
 use Rattle.optplan_replies.specs.declared.status.Status.TheVariants as exit
 use Rattle.optplan_optimal.specs.declared.verdict.OptimalityVerdict.{OptimalityVerdict}
 use Rattle.optplan_optimal.specs.declared.verdict.OptimalityVerdict.TheVariants.{Optimal, Gap, CertificateRejected, PlanRejected, Unsolvable, AtLeast, ClaimRejected}

@@ -1,14 +1,13 @@
 -- Replies to four texts that were read.
-use Rattle.std.proofs.Common.{◌≡◌, ◌≢◌, ◌≤◌, ◌+◌, ℕ, List, ◌++◌, sym, ap, ◌∙◌}
-use Rattle.std.specs.Prelude.{Option, Some, Result, Ok, Err, String, IfOk, IfErr}
-use Rattle.optplan_device.specs.Events.{Event}
+use Rattle.std.proofs.Common.{◌≡◌, ◌≢◌, ◌≤◌, ◌+◌, ℕ, List, sym, ◌∙◌}
+use Rattle.std.specs.Prelude.{Result, Ok, Err, String, IfOk, IfErr}
 use Rattle.optplan_replies.specs.declared.fault.Fault.{Fault}
 use Rattle.optplan_replies.specs.declared.fault.Fault.TheVariants.{OutOfMemory, CannotRead, CannotWrite, Task, Plan, Sas, Cert, GroundLimit, TaskTooLarge, TotalTooLarge}
 use Rattle.optplan_replies.specs.declared.status.Status.{Status}
 use Rattle.optplan_replies.specs.declared.status.Status.TheVariants.{DeviceFailed}
 use Rattle.optplan_replies.specs.Faults.{fault_status}
 use Rattle.optplan_replies.specs.Reports.{IsTaskReport}
-use Rattle.optplan_optimal.specs.Running.{IsOptimalityReport, reads}
+use Rattle.optplan_optimal.specs.Running.{IsOptimalityReport}
 
 -- a report of the task's texts is one of the four texts
 pub report_of_task : (domain problem plan cert : List ℕ) (e : Fault) → IsTaskReport domain problem e → IsOptimalityReport domain problem plan cert e
@@ -44,14 +43,3 @@ pub reply_failed : {Z : Type 0} (domain problem plan cert : List ℕ) (answer : 
 reply_failed domain problem plan cert (Ok r) status old new judged refused counted fault_is failed = counted failed judged
 reply_failed domain problem plan cert (Err e) status old new judged refused counted fault_is failed =
     absurd (report_status domain problem plan cert e refused (sym fault_is ∙ failed))
-
--- four files were read
-pub reads_same : (mid : Option (List Event)) (h : List Event) (domain d d' problem p p' plan l l' cert c c' : List ℕ)
-    → d' ≡ d → p' ≡ p → l' ≡ l → c' ≡ c → mid ≡ Some (h ++ reads domain d problem p plan l cert c)
-    → mid ≡ Some (h ++ reads domain d' problem p' plan l' cert c')
-reads_same mid h domain d d' problem p p' plan l l' cert c c' d_is p_is l_is c_is mid_is =
-    mid_is
-    ∙ ap (λ (x : List ℕ). Some (h ++ reads domain x problem p plan l cert c)) (sym d_is)
-    ∙ ap (λ (x : List ℕ). Some (h ++ reads domain d' problem x plan l cert c)) (sym p_is)
-    ∙ ap (λ (x : List ℕ). Some (h ++ reads domain d' problem p' plan x cert c)) (sym l_is)
-    ∙ ap (λ (x : List ℕ). Some (h ++ reads domain d' problem p' plan l' cert x)) (sym c_is)

@@ -6,8 +6,8 @@ use Rattle.pddl.proofs.TaskTexts.{spelled_not_refused_is}
 use Rattle.validate.specs.Steps.{Step}
 use Rattle.validate.specs.PlanTexts.{SpellsPlan}
 use Rattle.validate.proofs.PlanLaws.{plan_clean}
-use Rattle.checker_pddl.specs.Answers as checked
-use Rattle.checker_pddl.specs.declared.verdict.PlanningVerdict.{PlanningVerdict}
+use Rattle.checker.specs.Answers as checked
+use Rattle.checker.specs.declared.verdict.PlanningVerdict.{PlanningVerdict}
 use Rattle.optplan_optimal.specs.declared.fault.OptimalityFault.{OptimalityFault}
 use Rattle.optplan_optimal.specs.declared.fault.OptimalityFault.TheVariants.{OutOfMemory, Task, Plan, Cert, GroundLimit, Limit}
 use Rattle.optplan_optimal.specs.declared.verdict.OptimalityVerdict.{OptimalityVerdict}

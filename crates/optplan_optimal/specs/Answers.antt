@@ -7,9 +7,9 @@ use Rattle.pddl.specs.Texts.{SpellTask, IsTaskRefusal}
 use Rattle.pddl.specs.declared.fault.PddlFault.TheVariants as task_fault
 use Rattle.validate.specs.PlanTexts.{IsPlanFault}
 use Rattle.validate.specs.declared.plan.PlanFault.TheVariants as plan_fault
-use Rattle.checker_pddl.specs.Answers as checked
-use Rattle.checker_pddl.specs.declared.fault.PlanningCheckFault.TheVariants as check
-use Rattle.checker_pddl.specs.declared.verdict.PlanningVerdict.TheVariants.{Accepted, Rejected}
+use Rattle.checker.specs.Answers as checked
+use Rattle.checker.specs.declared.fault.PlanningCheckFault.TheVariants as check
+use Rattle.checker.specs.declared.verdict.PlanningVerdict.TheVariants.{Accepted, Rejected}
 use Rattle.optplan_optimal.specs.declared.fault.OptimalityFault.{OptimalityFault}
 use Rattle.optplan_optimal.specs.declared.fault.OptimalityFault.TheVariants.{OutOfMemory, Task, Plan, Cert, GroundLimit, Limit}
 use Rattle.optplan_optimal.specs.declared.verdict.OptimalityVerdict.{OptimalityVerdict}

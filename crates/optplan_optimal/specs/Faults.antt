@@ -3,8 +3,8 @@ use Rattle.pddl.specs.declared.fault.PddlFault.{PddlFault}
 use Rattle.pddl.specs.declared.fault.PddlFault.TheVariants as task_fault
 use Rattle.validate.specs.declared.plan.PlanFault.{PlanFault}
 use Rattle.validate.specs.declared.plan.PlanFault.TheVariants as plan_fault
-use Rattle.checker_pddl.specs.declared.fault.PlanningCheckFault.{PlanningCheckFault}
-use Rattle.checker_pddl.specs.declared.fault.PlanningCheckFault.TheVariants as check
+use Rattle.checker.specs.declared.fault.PlanningCheckFault.{PlanningCheckFault}
+use Rattle.checker.specs.declared.fault.PlanningCheckFault.TheVariants as check
 use Rattle.optplan_optimal.specs.declared.fault.OptimalityFault.{OptimalityFault}
 use Rattle.optplan_optimal.specs.declared.fault.OptimalityFault.TheVariants.{OutOfMemory, Task, Plan, Cert, GroundLimit, Limit}
 

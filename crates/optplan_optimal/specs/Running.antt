@@ -2,6 +2,7 @@
 -- command does.
 use Rattle.std.specs.Prelude.{◌≡◌, ℕ, true, List, [], ◌∷◌, ◌++◌, codes}
 use Rattle.optplan_device.specs.Events.{Event, HasRead}
+use Rattle.optplan_plan_texts.specs.Plain.{plain}
 use Rattle.optplan_replies.specs.declared.fault.Fault.{Fault}
 use Rattle.optplan_replies.specs.declared.fault.Fault.TheVariants as reported
 use Rattle.optplan_replies.specs.declared.status.Status.{Status}
@@ -46,7 +47,8 @@ pub record AskForOptimality (words : List (List ℕ)) (domain problem plan cert 
 abbrev pub reads : List ℕ → List ℕ → List ℕ → List ℕ → List ℕ → List ℕ → List ℕ → List ℕ → List Event
 reads domain d problem p plan l cert c = HasRead domain d ∷ HasRead problem p ∷ HasRead plan l ∷ HasRead cert c ∷ []
 
--- the four files are read, in this order; then the verdict's line is printed, or one of the texts is refused
+-- the four files are read, in this order; then the verdict's line is printed, or one of the texts is refused. The plan
+-- may be as other tools write it: it is judged in its plain form
 pub record JudgesOptimality (old new : List Event) (domain problem plan cert : List ℕ) (status : Status) : Type 0 where
   pub domain_text : List ℕ
   pub problem_text : List ℕ
@@ -54,4 +56,5 @@ pub record JudgesOptimality (old new : List Event) (domain problem plan cert : L
   pub cert_text : List ℕ
   pub later : List Event
   pub events : new ≡ old ++ (reads domain domain_text problem problem_text plan plan_text cert cert_text ++ later)
-  pub follows : Follows (IsOptimalityReply domain_text problem_text plan_text cert_text) (IsOptimalityReport domain_text problem_text plan_text cert_text) later status
+  pub follows : Follows (IsOptimalityReply domain_text problem_text (plain plan_text) cert_text)
+      (IsOptimalityReport domain_text problem_text (plain plan_text) cert_text) later status

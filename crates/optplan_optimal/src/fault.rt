@@ -5,7 +5,7 @@ ghost use Rattle.optplan_optimal.specs.declared.fault.OptimalityFault.TheVariant
 ghost use Rattle.optplan_optimal.specs.Faults.{fault_of_task, fault_of_plan, fault_of_check};
 
 use cert_text::CertFault;
-use checker_pddl::PlanningCheckFault;
+use checker::PlanningCheckFault;
 use fdr::TaskLimit;
 use pddl::PddlFault;
 use std::alloc::AllocError;

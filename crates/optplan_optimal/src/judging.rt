@@ -8,15 +8,15 @@ ghost use Rattle.pddl.specs.Texts.{SpellTask};
 ghost use Rattle.translate_theory.specs.Bounds.{ValidPlansCostAtLeast};
 ghost use Rattle.validate.specs.Written.{verdict_text};
 ghost use Rattle.validate.specs.declared.verdict.Verdict.TheVariants.{Valid};
-ghost use Rattle.checker_pddl.specs.Answers as checked;
-ghost use Rattle.checker_pddl.specs.declared.verdict.PlanningVerdict.TheVariants.{Accepted};
+ghost use Rattle.checker.specs.Answers as checked;
+ghost use Rattle.checker.specs.declared.verdict.PlanningVerdict.TheVariants.{Accepted};
 ghost use Rattle.optplan_optimal.specs.Plans.{ClaimsUnsolvable, SpellsValidPlan};
 ghost use Rattle.optplan_optimal.specs.Answers.{SpellTaskAndValidPlan, IsAnswer, IsRefusal};
 ghost use Rattle.optplan_optimal.specs.Guarantees.{Guarantees};
 
 use crate::fault::OptimalityFault;
 use crate::verdict::OptimalityVerdict;
-use checker_pddl::{PlanningVerdict, check_for_task};
+use checker::{PlanningVerdict, check_for_task};
 use cost::Dist;
 use pddl::read_task;
 use pddl_task::Task;

@@ -2,7 +2,7 @@
 
 ghost use Rattle.std.specs.Prelude.{◌≡◌, ◌≢◌, ℕ, List, [], codes};
 ghost use Rattle.checker_clauses.specs.declared.violation.Violation.TheVariants.{Successor};
-ghost use Rattle.checker_pddl.specs.declared.verdict.PlanningViolation.TheVariants.{Task};
+ghost use Rattle.checker.specs.declared.verdict.PlanningViolation.TheVariants.{Task};
 ghost use Rattle.pddl_worked.specs.Noop.{noop_domain, noop_problem};
 ghost use Rattle.optplan_replies.specs.declared.status.Status.TheVariants as exit;
 ghost use Rattle.validate.specs.declared.plan.PlanFault.TheVariants.{PlanShape};

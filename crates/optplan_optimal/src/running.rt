@@ -2,7 +2,8 @@
 
 ghost use Rattle.std.specs.Prelude.{◌≡◌, ◌≢◌, ◌≤◌, ◌+◌, ◌++◌, ℕ, List, Some, IfOk, IfErr, OnOk, codes, string_bytes};
 ghost use Rattle.optplan_device.specs.Events.{Event};
-ghost use Rattle.optplan_replies.specs.Runs.{IsDeviceFault};
+ghost use Rattle.optplan_plan_texts.specs.Plain.{plain};
+ghost use Rattle.optplan_replies.specs.Runs.{IsDeviceFault, IsUnput};
 ghost use Rattle.optplan_optimal.specs.Lines.{verdict_text};
 ghost use Rattle.optplan_optimal.specs.Answers.{IsRefusal};
 ghost use Rattle.optplan_optimal.specs.Running.{IsOptimalityReply, IsOptimalityReport, reads, JudgesOptimality};
@@ -11,6 +12,7 @@ use crate::fault::OptimalityFault;
 use crate::judging::judge_optimality;
 use crate::verdict::OptimalityVerdict;
 use optplan_device::Device;
+use optplan_plan_texts::to_plain;
 use optplan_replies::{Fault, FileWord, Status, read_file, reply, report, task_fault};
 use std::alloc::{AllocError, Global};
 use std::thread::Threads;
@@ -52,6 +54,7 @@ fn answer_of<R: AllocGlobal + Threads + Sync>(
 ) -> Result<(String, Status), Fault>
     ensures answer { IfOk result (λ r. IsOptimalityReply domain.now problem.now plan.now cert.now (string_bytes r.0) r.1) }
     ensures judged { IfOk result (λ r. r.1 ≢ Status.DeviceFailed) }
+    ensures answered { IfOk result (λ r. r.1 ≢ Status.OutOfMemory) }
     ensures refused { IfErr result (IsOptimalityReport domain.now problem.now plan.now cert.now) }
 {
     let verdict = match judge_optimality(rt, domain, problem, plan, cert) {
@@ -73,6 +76,22 @@ struct Texts {
     cert: Vec<u8>,
 }
 
+/// Returns the line that is printed for the texts, the plan's in its plain form, and the exit status. Fails as
+/// `answer_of` does.
+fn answer_to<R: AllocGlobal + Threads + Sync>(
+    rt: &R,
+    texts: Texts,
+) -> Result<(String, Status), Fault>
+    ensures answer { IfOk result (λ r. IsOptimalityReply texts.domain.items texts.problem.items (plain texts.plan.items) texts.cert.items (string_bytes r.0) r.1) }
+    ensures judged { IfOk result (λ r. r.1 ≢ Status.DeviceFailed) }
+    ensures answered { IfOk result (λ r. r.1 ≢ Status.OutOfMemory) }
+    ensures refused { IfErr result (IsOptimalityReport texts.domain.items texts.problem.items (plain texts.plan.items) texts.cert.items) }
+{
+    let mut plan = texts.plan;
+    to_plain(&mut plan);
+    answer_of(rt, &texts.domain, &texts.problem, &plan, &texts.cert)
+}
+
 /// Returns the bytes of the four files, read in this order. Fails as `read_file` does.
 fn read_texts<D: Device>(
     alloc: Global,
@@ -86,6 +105,7 @@ fn read_texts<D: Device>(
         IfOk result (λ t. D.history device.new ≡ Some (h ++ reads domain.now t.domain.items problem.now t.problem.items plan.now t.plan.items cert.now t.cert.items)) }
     ensures same { OnOk result (D.failure_count device.new ≡ D.failure_count device.old) }
     ensures failed { IfErr result (λ e. IsDeviceFault e (D.failure_count device.old) (D.failure_count device.new)) }
+    ensures unput { IsUnput (D.history device.old) (D.history device.new) }
 {
     let domain = read_file(alloc, device, domain, FileWord::Domain)?;
     let problem = read_file(alloc, device, problem, FileWord::Problem)?;
@@ -99,9 +119,10 @@ fn read_texts<D: Device>(
     })
 }
 
-/// Judges whether a plan is optimal: reads the four files, and prints the verdict's line or reports the fault. Returns
-/// the exit status: `Done` if the plan is optimal, `Unsolvable` if the plan's text claims that there is no valid plan
-/// and the certificate proves it, else `Rejected`; or that of the fault.
+/// Judges whether a plan is optimal: reads the four files, and prints the verdict's line or reports the fault. The plan
+/// may be as other tools write it, with a first line `limit N`, time stamps and durations. Returns the exit status:
+/// `Done` if the plan is optimal, `Unsolvable` if the plan's text claims that there is no valid plan and the
+/// certificate proves it, else `Rejected`; or that of the fault.
 pub fn run_optimality<D: Device, R: AllocGlobal + Threads + Sync>(
     rt: &R,
     device: &mut D,
@@ -113,10 +134,11 @@ pub fn run_optimality<D: Device, R: AllocGlobal + Threads + Sync>(
     ensures done { (h : List Event) → D.history device.old ≡ Some h → D.failure_count device.new ≡ D.failure_count device.old → result ≢ Status.OutOfMemory →
         (new : List Event) × (D.history device.new ≡ Some new) × JudgesOptimality h new domain.now problem.now plan.now cert.now result }
     ensures device_failed { result ≡ Status.DeviceFailed → D.failure_count device.old + 1 ≤ D.failure_count device.new }
+    ensures unput { result ≡ Status.OutOfMemory → IsUnput (D.history device.old) (D.history device.new) }
 {
     match read_texts(rt.alloc(), device, domain, problem, plan, cert) {
         Ok(texts) => {
-            let answer = answer_of(rt, &texts.domain, &texts.problem, &texts.plan, &texts.cert);
+            let answer = answer_to(rt, texts);
             reply(rt.alloc(), device, &answer)
         }
         Err(fault) => report(rt.alloc(), device, &fault),

@@ -3,7 +3,7 @@
 ghost use Rattle.std.specs.Prelude.{◌≡◌, ◌≢◌};
 ghost use Rattle.optplan_optimal.specs.Statuses.{verdict_status};
 
-use checker_pddl::PlanningViolation;
+use checker::PlanningViolation;
 use optplan_replies::Status;
 use std::fmt;
 

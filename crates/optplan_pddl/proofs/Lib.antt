@@ -1,4 +1,15 @@
+pub mod NamedWords
+pub mod TextPromises
+pub mod SpelledSteps
+pub mod SameTexts
+pub mod Actions
+pub mod PrintedNames
+pub mod NamedActions
+pub mod WrittenTasks
+pub mod PlanVerdicts
+pub mod NamedTexts
+pub mod NamedAtoms
+pub mod KindLaws
 pub mod Accepting
 pub mod Answering
-pub mod Reading
 pub mod StepNames

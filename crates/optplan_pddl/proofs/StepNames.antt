@@ -6,10 +6,10 @@ use Rattle.pddl_laws.proofs.WordNames.{spelled_words}
 use Rattle.translate.specs.Translated.{TranslatedTask, IsTranslation}
 use Rattle.validate.specs.Steps.{Step}
 use Rattle.validate.specs.PlanWords.{IsPlanStep}
-use Rattle.optplan_plans.specs.Steps.{words_of, step_of_words, HasStepNames}
-use Rattle.optplan_plans.proofs.SpelledSteps.{spelled_again}
-use Rattle.optplan_plans.proofs.WrittenTasks.{all_operators}
-use Rattle.optplan_plan_laws.proofs.Promises.{step_is}
+use Rattle.optplan_pddl.specs.Steps.{words_of, step_of_words, HasStepNames}
+use Rattle.optplan_pddl.proofs.SpelledSteps.{spelled_again}
+use Rattle.optplan_pddl.proofs.WrittenTasks.{all_operators}
+use Rattle.optplan_pddl.proofs.TextPromises.{step_is}
 use Rattle.optplan_pddl.specs.Prepared.{IsPrepared}
 use Rattle.optplan_pddl.specs.declared.preparing.Prepared.{Prepared}
 

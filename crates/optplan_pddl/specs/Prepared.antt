@@ -6,7 +6,7 @@ use Rattle.pddl_task.specs.Planning.{PlanningTask}
 use Rattle.pddl.specs.Texts.{SpellTask}
 use Rattle.cert_value.specs.Views.{kind_of}
 use Rattle.translate.specs.Translated.{IsTranslation, HasSamePlans}
-use Rattle.optplan_kind.specs.Kinds.{translation_kind}
+use Rattle.optplan_pddl.specs.Kinds.{translation_kind}
 use Rattle.optplan_pddl.specs.declared.preparing.Prepared.{Prepared}
 
 -- the texts spell a task; this is a translation of it with the same plans, and the kind of certificates for it, if a

@@ -6,41 +6,25 @@ ghost use Rattle.std.specs.Bool.{then_some};
 ghost use Rattle.cert_value.specs.Views.{kind_of};
 ghost use Rattle.pddl_task.specs.Planning.{IsPlanningTask};
 ghost use Rattle.pddl.specs.Texts.{SpellTask};
-ghost use Rattle.translate.specs.Translated.{IsReadTask, IsTranslation, HasSamePlans};
-ghost use Rattle.optplan_kind.specs.Kinds.{translation_kind};
+ghost use Rattle.translate.specs.Translated.{IsReadTask, IsTranslation};
+ghost use Rattle.optplan_pddl.specs.Kinds.{translation_kind};
 ghost use Rattle.optplan_pddl.specs.Prepared.{IsPrepared};
-ghost use Rattle.optplan_pddl.specs.Answers.{IsPlanningRefusal};
+ghost use Rattle.optplan_pddl.specs.Answers.{IsPrepareRefusal};
 
-use crate::fault::PlanningFault;
+use crate::fault::PrepareFault;
+use crate::kind::translation_kind;
 use cert_value::CertificateKind;
-use optplan_kind::translation_kind;
 use pddl::read_task;
 use pddl_task::Task;
 use std::alloc::{AllocError, Global};
 use translate::{Translated, translate};
-use translate_vars::TranslateFault;
 
-/// A task's translation, with the kind of the certificate to make, `None` if none is made.
+/// A planning task that was read from its texts and translated: it can be searched. It has the kind of the certificate
+/// to make, if one is made.
 #[derive(Drop)]
-pub(crate) struct Prepared {
+pub struct Prepared {
     pub(crate) translated: Translated,
     pub(crate) wanted: Option<CertificateKind>,
-}
-
-/// Returns the task's translation. Fails if the task or its translation exceeds a limit, or if allocation fails.
-fn translation_of(alloc: Global, task: &Task) -> Result<Translated, PlanningFault>
-    requires read { IsReadTask task.now }
-    requires well { IsPlanningTask task.now }
-    ensures translation { IfOk result (IsTranslation task.now) }
-    ensures plans { IfOk result (HasSamePlans task.now) }
-    ensures refused { (domain problem : List ℕ) → SpellTask domain problem task.now → IfErr result (IsPlanningRefusal domain problem (λ task e. ⊥)) }
-{
-    match translate(alloc, task) {
-        Ok(translated) => Ok(translated),
-        Err(TranslateFault::GroundLimit) => Err(PlanningFault::GroundLimit),
-        Err(TranslateFault::Limit(table)) => Err(PlanningFault::TaskTooLarge(table)),
-        Err(_) => Err(PlanningFault::OutOfMemory),
-    }
 }
 
 /// Returns the kind of certificates for a translated task, if a certificate is wanted.
@@ -62,13 +46,13 @@ fn wanted_kind(
 
 /// Returns the task's translation, with the kind of certificates for it if a certificate is wanted. Fails if the task
 /// or its translation exceeds a limit, or if allocation fails.
-fn prepare_task(alloc: Global, task: &Task, certificate: bool) -> Result<Prepared, PlanningFault>
+fn prepare_task(alloc: Global, task: &Task, certificate: bool) -> Result<Prepared, PrepareFault>
     requires read { IsReadTask task.now }
     requires well { IsPlanningTask task.now }
     ensures prepared { (domain problem : List ℕ) → SpellTask domain problem task.now → IfOk result (IsPrepared certificate domain problem) }
-    ensures refused { (domain problem : List ℕ) → SpellTask domain problem task.now → IfErr result (IsPlanningRefusal domain problem (λ task e. ⊥)) }
+    ensures refused { (domain problem : List ℕ) → SpellTask domain problem task.now → IfErr result (IsPrepareRefusal domain problem) }
 {
-    let translated = translation_of(alloc, task)?;
+    let translated = translate(alloc, task)?;
     let wanted = wanted_kind(alloc, task, &translated, certificate)?;
     Ok(Prepared { translated, wanted })
 }
@@ -76,14 +60,14 @@ fn prepare_task(alloc: Global, task: &Task, certificate: bool) -> Result<Prepare
 /// Returns the translation of the task that the texts spell, with the kind of certificates for it if a certificate is
 /// wanted. Fails with the first fault of the texts, if the task or its translation exceeds a limit, or if allocation
 /// fails.
-pub(crate) fn prepare(
+pub fn prepare(
     alloc: Global,
     domain: &[u8],
     problem: &[u8],
     certificate: bool,
-) -> Result<Prepared, PlanningFault>
+) -> Result<Prepared, PrepareFault>
     ensures prepared { IfOk result (IsPrepared certificate domain.now problem.now) }
-    ensures refused { IfErr result (IsPlanningRefusal domain.now problem.now (λ task e. ⊥)) }
+    ensures refused { IfErr result (IsPrepareRefusal domain.now problem.now) }
 {
     let task = read_task(alloc, domain, problem)?;
     prepare_task(alloc, &task, certificate)

@@ -1,11 +1,11 @@
 -- How a command replies to the texts that it has read.
-use Rattle.std.proofs.Common.{◌≡◌, ◌≢◌, ◌≤◌, ◌+◌, ℕ, List, [], ◌∷◌, ◌++◌, refl, sym, ap, subst, ◌∙◌, arith, inl, inr}
+use Rattle.std.proofs.Common.{◌≡◌, ◌≢◌, ◌≤◌, ◌+◌, ℕ, List, [], ◌∷◌, ◌++◌, refl, sym, ap, subst, ◌∙◌, inl, inr}
 use Rattle.std.specs.Prelude.{Option, Some, Result, Ok, Err, String, IfOk, IfErr, string_bytes}
 use Rattle.std.specs.Option.{option_map}
 use Rattle.optplan_device.specs.Events.{Event, HasPut, Adds}
 use Rattle.optplan_replies.specs.declared.fault.Fault.{Fault}
 use Rattle.optplan_replies.specs.declared.status.Status.{Status}
-use Rattle.optplan_replies.specs.declared.status.Status.TheVariants.{DeviceFailed}
+use Rattle.optplan_replies.specs.declared.status.Status.TheVariants.{DeviceFailed, OutOfMemory}
 use Rattle.optplan_replies.specs.Statuses.{IsOfVerdict}
 use Rattle.optplan_replies.specs.Faults.{fault_status}
 use Rattle.optplan_replies.specs.Runs.{IsQuiet, Follows, task_reads}
@@ -29,6 +29,15 @@ replied Answers Refuses (Err e) mid new h status mid_is answered refused put sta
 of_verdict : (status : Status) → IsOfVerdict status → status ≢ DeviceFailed
 of_verdict status (inl done) = λ failed. cc
 of_verdict status (inr rejected) = λ failed. cc
+
+-- a verdict is no want of memory
+known_verdict : (status : Status) → IsOfVerdict status → status ≢ OutOfMemory
+known_verdict status (inl done) = λ memory. cc
+known_verdict status (inr rejected) = λ memory. cc
+
+pub known_verdicts : {Z : Type 0} (answer : Result (String Z × Status) Fault) → IfOk answer (λ r. IsOfVerdict r.1) → IfOk answer (λ r. r.1 ≢ OutOfMemory)
+known_verdicts (Ok r) verdict = known_verdict r.1 verdict
+known_verdicts (Err e) verdict = tt
 
 -- a reply ends with `DeviceFailed` only after a failure that is counted, where no text is refused with it
 pub reply_failed : {Z : Type 0} (Refuses : Fault → Type 0) (answer : Result (String Z × Status) Fault) (status : Status) (old new : ℕ)

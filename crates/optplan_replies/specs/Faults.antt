@@ -1,10 +1,10 @@
 -- Faults and their exit statuses.
-use Rattle.sasfile.specs.declared.fault.SasFault.{SasFault}
-use Rattle.sasfile.specs.declared.fault.SasFault.TheVariants as sas
+use Rattle.sasfile_reader.specs.declared.fault.SasFault.{SasFault}
+use Rattle.sasfile_reader.specs.declared.fault.SasFault.TheVariants as sas
 use Rattle.cert_text.specs.declared.fault.CertFault.{CertFault}
 use Rattle.cert_text.specs.declared.fault.CertFault.TheVariants as cert
-use Rattle.checker.specs.declared.fault.CheckFault.{CheckFault}
-use Rattle.checker.specs.declared.fault.CheckFault.TheVariants as check
+use Rattle.checker_fdr.specs.declared.fault.CheckFault.{CheckFault}
+use Rattle.checker_fdr.specs.declared.fault.CheckFault.TheVariants as check
 use Rattle.optplan_replies.specs.declared.fault.Fault.{Fault}
 use Rattle.optplan_replies.specs.declared.fault.Fault.TheVariants.{OutOfMemory, CannotRead, CannotWrite, Task, Plan, Sas, Cert, GroundLimit, TaskTooLarge, TotalTooLarge}
 use Rattle.optplan_replies.specs.declared.status.Status.{Status}

@@ -1,5 +1,5 @@
 -- The effects of every command on its device, and its exit status.
-use Rattle.std.specs.Prelude.{◌≡◌, ℕ, ◌+◌, ◌⊎◌, ◌==◌, not, Bool, true, List, [], ◌∷◌}
+use Rattle.std.specs.Prelude.{◌≡◌, ℕ, ◌+◌, ◌⊎◌, ◌==◌, not, Bool, true, List, [], ◌∷◌, ◌++◌, Option, Some}
 use Rattle.optplan_device.specs.Events.{Event, HasRead, HasWritten, HasPut, HasReported}
 use Rattle.optplan_replies.specs.declared.fault.Fault.{Fault}
 use Rattle.optplan_replies.specs.declared.fault.Fault.TheVariants.{OutOfMemory, CannotRead, CannotWrite, Task, Plan, Sas, Cert, GroundLimit, TaskTooLarge, TotalTooLarge}
@@ -19,6 +19,18 @@ IsQuiet (HasReported bytes ∷ e ∷ events) = ⊥
 IsQuiet (HasRead name bytes ∷ events) = ⊥
 IsQuiet (HasWritten name bytes ∷ events) = ⊥
 IsQuiet (HasPut bytes ∷ events) = ⊥
+
+-- none of these events is one of standard output
+abbrev pub PutsNothing : List Event → Type 0
+PutsNothing [] = Unit {0}
+PutsNothing (HasRead name bytes ∷ events) = PutsNothing events
+PutsNothing (HasWritten name bytes ∷ events) = PutsNothing events
+PutsNothing (HasPut bytes ∷ events) = ⊥
+PutsNothing (HasReported bytes ∷ events) = PutsNothing events
+
+-- nothing was written to standard output between these two histories of a device that specifies them
+abbrev pub IsUnput : Option (List Event) → Option (List Event) → Type 0
+IsUnput old new = (h : List Event) → old ≡ Some h → (later : List Event) × (new ≡ Some (h ++ later)) × PutsNothing later
 
 -- the two files of a planning task were read
 abbrev pub task_reads : List ℕ → List ℕ → List ℕ → List ℕ → List Event

@@ -9,4 +9,4 @@ mod surroundings;
 pub use fault::{Fault, FileWord};
 pub use reports::task_fault;
 pub use status::Status;
-pub use surroundings::{put_text, read_file, read_task_files, reply, report};
+pub use surroundings::{put, put_text, read_file, read_task_files, reply, report};

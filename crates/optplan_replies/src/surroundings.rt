@@ -4,7 +4,7 @@ ghost use Rattle.std.specs.Prelude.{◌≡◌, ◌≢◌, ◌≤◌, ◌+◌, �
 ghost use Rattle.optplan_device.specs.Events.{Event, HasRead, HasPut, Adds};
 ghost use Rattle.optplan_replies.specs.Faults.{fault_status};
 ghost use Rattle.optplan_replies.specs.declared.fault.Fault.TheVariants.{OutOfMemory, CannotRead, CannotWrite};
-ghost use Rattle.optplan_replies.specs.Runs.{IsDeviceFault, IsQuiet, task_reads};
+ghost use Rattle.optplan_replies.specs.Runs.{IsDeviceFault, IsQuiet, task_reads, IsUnput};
 
 use crate::fault::{Fault, FileWord};
 use crate::status::Status;
@@ -24,6 +24,7 @@ pub fn read_file<D: Device>(
     ensures same { OnOk result (D.failure_count device.new ≡ D.failure_count device.old) }
     ensures kept { OnErr result (D.history device.new ≡ D.history device.old) }
     ensures failed { IfErr result (λ e. IsDeviceFault e (D.failure_count device.old) (D.failure_count device.new)) }
+    ensures unput { IsUnput (D.history device.old) (D.history device.new) }
 {
     match device.read(alloc, name) {
         Ok(bytes) => Ok(bytes),
@@ -43,6 +44,7 @@ pub fn read_task_files<D: Device>(
         IfOk result (λ t. D.history device.new ≡ Some (h ++ task_reads domain.now t.0.items problem.now t.1.items)) }
     ensures same { OnOk result (D.failure_count device.new ≡ D.failure_count device.old) }
     ensures failed { IfErr result (λ e. IsDeviceFault e (D.failure_count device.old) (D.failure_count device.new)) }
+    ensures unput { IsUnput (D.history device.old) (D.history device.new) }
 {
     let domain = read_file(alloc, device, domain, FileWord::Domain)?;
     let problem = read_file(alloc, device, problem, FileWord::Problem)?;
@@ -50,7 +52,7 @@ pub fn read_task_files<D: Device>(
 }
 
 /// Writes a text to standard output. Fails if the device fails, or if allocation fails.
-fn put<D: Device>(device: &mut D, text: &[u8]) -> Result<(), Fault>
+pub fn put<D: Device>(device: &mut D, text: &[u8]) -> Result<(), Fault>
     ensures told { OnOk result (Adds (D.history device.old) (D.history device.new) (HasPut text.now)) }
     ensures word { IfErr result (λ e. (e ≡ OutOfMemory) ⊎ (e ≡ CannotWrite FileWord.Output)) }
     ensures same { OnOk result (D.failure_count device.new ≡ D.failure_count device.old) }
@@ -73,18 +75,24 @@ fn fault_line(alloc: Global, fault: &Fault) -> Result<String, AllocError> {
 }
 
 /// Reports a fault on standard error and returns the fault's exit status. If there is no memory for the fault's line,
-/// the line is that for `OutOfMemory`. A failure to write the line is ignored.
+/// line and status are those for `OutOfMemory`. A failure to write the line is ignored.
 pub fn report<D: Device>(alloc: Global, device: &mut D, fault: &Fault) -> Status
     ensures told { (h : List Event) → D.history device.old ≡ Some h →
         (later : List Event) × (D.history device.new ≡ Some (h ++ later)) × IsQuiet later }
     ensures counted { D.failure_count device.old ≤ D.failure_count device.new }
-    ensures status { result ≡ fault_status fault.now }
+    ensures status { result ≢ Status.OutOfMemory → result ≡ fault_status fault.now }
+    ensures unput { IsUnput (D.history device.old) (D.history device.new) }
 {
-    let _ = match fault_line(alloc, fault) {
-        Ok(line) => device.err(line.as_bytes()),
-        Err(_) => device.err(OUT_OF_MEMORY_LINE),
-    };
-    fault.status()
+    match fault_line(alloc, fault) {
+        Ok(line) => {
+            let _ = device.err(line.as_bytes());
+            fault.status()
+        }
+        Err(_) => {
+            let _ = device.err(OUT_OF_MEMORY_LINE);
+            Status::OutOfMemory
+        }
+    }
 }
 
 /// Writes a text to standard output, and returns this exit status; if that fails, reports the fault, and returns the
@@ -93,6 +101,7 @@ pub fn put_text<D: Device>(alloc: Global, device: &mut D, text: &[u8], status: S
     ensures told { result ≢ Status.OutOfMemory → result ≢ Status.DeviceFailed → Adds (D.history device.old) (D.history device.new) (HasPut text.now) }
     ensures status { result ≢ Status.OutOfMemory → result ≢ Status.DeviceFailed → result ≡ status }
     ensures counted { result ≡ Status.DeviceFailed → status ≢ Status.DeviceFailed → D.failure_count device.old + 1 ≤ D.failure_count device.new }
+    ensures unput { result ≡ Status.OutOfMemory → status ≢ Status.OutOfMemory → IsUnput (D.history device.old) (D.history device.new) }
 {
     match put(device, text) {
         Ok(()) => status,
@@ -111,7 +120,8 @@ pub fn reply<D: Device>(
     ensures counted { result ≡ Status.DeviceFailed → IfOk answer.now (λ r. r.1 ≢ Status.DeviceFailed → D.failure_count device.old + 1 ≤ D.failure_count device.new) }
     ensures refused { (h : List Event) → D.history device.old ≡ Some h →
         IfErr answer.now (λ e. (later : List Event) × (D.history device.new ≡ Some (h ++ later)) × IsQuiet later) }
-    ensures refusal { IfErr answer.now (λ e. result ≡ fault_status e) }
+    ensures refusal { result ≢ Status.OutOfMemory → IfErr answer.now (λ e. result ≡ fault_status e) }
+    ensures unput { result ≡ Status.OutOfMemory → IfOk answer.now (λ r. r.1 ≢ Status.OutOfMemory) → IsUnput (D.history device.old) (D.history device.new) }
 {
     match answer {
         Ok((line, status)) => put_text(alloc, device, line.as_bytes(), *status),

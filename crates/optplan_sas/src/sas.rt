@@ -1,36 +1,30 @@
 //! Solving a finite-domain task, from text to texts.
 
-ghost use Rattle.std.specs.Prelude.{◌≡◌, ℕ, Bool, List, IfOk, IfErr};
-ghost use Rattle.std.specs.Bool.{then_some};
-ghost use Rattle.cert_value.specs.Certificates.{FiniteDomain};
-ghost use Rattle.sasfile.specs.SasTexts.{SpellsTask};
-ghost use Rattle.cost.specs.Distances.{Distance};
-ghost use Rattle.packed_spread.specs.Spreads as spread;
-ghost use Rattle.packed_spread.specs.Spreads.{zobrist_owner};
-ghost use Rattle.optplan_search.specs.SearchEnds.{EndsOf};
-ghost use Rattle.optplan_search.specs.Findings.{wants, IsPlanAt, IsBestSoFar, IsSolution, IsSoFar, IsFoundFor, IsTrueOf};
-ghost use Rattle.optplan_search.specs.Searches.{EndsAfter, IsRefusedAfter, EndsBySeed, IsRefusedBySeed, EndsByThreads, IsRefusedByThreads};
-ghost use Rattle.optplan_sas.specs.SasAnswers.{IsSasAnswer, IsSasAnswerFor, IsSasRefusal, IsSasPlan, IsSasSolution, IsSasKnown, IsBestWritten};
+ghost use Rattle.std.specs.Prelude.{◌≡◌, ℕ, List, IfOk, IfErr};
+ghost use Rattle.sasfile_reader.specs.SasTexts.{SpellsTask};
+ghost use Rattle.optplan_solver.specs.Findings.{IsPlanAt};
+ghost use Rattle.optplan_solver.specs.Searches.{EndsAfter, IsRefusedAfter, EndsBySeed, IsRefusedBySeed, EndsByThreads, IsRefusedByThreads};
+ghost use Rattle.optplan_sas.specs.SasAnswers.{IsSasAnswer, IsSasRefusal, IsSasPlan};
 
-use crate::answer::{Answer, CheapestPlan, KnownSoFar, WrittenPlan, certificate_text};
-use crate::fault::SasSolveFault;
 use cert_value::CertificateKind;
-use engine::Gate;
 use fdr::FdrTask;
 use netcore::WorldStep;
 use optplan_options::Options;
-use optplan_search::{
-    Found, FoundPlan, Observer, SoFar, Solution, found_after, found_by_seed, found_by_threads,
+use optplan_solver::{
+    Answer, EndingGate, FoundPlan, Observer, PlanForm, SearchFault, SolveFault, WrittenPlan,
+    answer_in, found_after, found_by_seed, found_by_threads,
 };
-use sasfile::{SasFault, read_sas};
-use sasfile_writer::sas_plan_text;
+use sasfile::{SasFault, read_sas, sas_plan_text};
 use std::alloc::{AllocError, Global};
 use std::sync::Wait;
 use std::thread::Threads;
 use std::time::Clock;
 
 /// The answer for a finite-domain task: a plan is the list of its operators' numbers.
-pub type SasAnswer = Answer<Vec<usize>>;
+pub type SasAnswer = Answer<WrittenPlan<Vec<usize>>>;
+
+/// The reason why a finite-domain task is not solved.
+pub type SasSolveFault = SolveFault<SasFault>;
 
 /// Returns the task that the text spells. Fails with the first fault of the text, or if allocation fails.
 fn read_task(alloc: Global, sas: &[u8]) -> Result<FdrTask, SasSolveFault>
@@ -39,8 +33,7 @@ fn read_task(alloc: Global, sas: &[u8]) -> Result<FdrTask, SasSolveFault>
 {
     match read_sas(alloc, sas) {
         Ok(task) => Ok(task),
-        Err(SasFault::OutOfMemory) => Err(SasSolveFault::OutOfMemory),
-        Err(fault) => Err(SasSolveFault::Sas(fault)),
+        Err(fault) => Err(SolveFault::Texts(fault)),
     }
 }
 
@@ -62,75 +55,46 @@ fn plan_text(
     })
 }
 
-/// Returns the best plan so far with its text, if there is one.
-fn best_text(
-    alloc: Global,
-    task: &FdrTask,
-    best: Option<FoundPlan>,
-) -> Result<Option<WrittenPlan<Vec<usize>>>, AllocError>
-    requires { (most : Distance) × IsBestSoFar task.now most best }
-    ensures { (most : Distance) → IsBestSoFar task.now most best → IfOk result (IsBestWritten (IsSasPlan task.now) most) }
-{
-    match best {
-        Some(found) => Ok(Some(plan_text(alloc, task, found)?)),
-        None => Ok(None),
+/// The form of plans of a finite-domain task: the numbers of their operators.
+#[derive(Drop)]
+struct OperatorPlans<'a> {
+    task: &'a FdrTask,
+}
+
+impl<'a> PlanForm<Vec<usize>> for OperatorPlans<'a> {
+    ghost use Rattle.std.specs.Prelude.{⊤};
+    ghost use Rattle.optplan_sas.specs.SasAnswers.{IsSasPlan};
+
+    ghost task = { λ f. f.task.now };
+
+    ghost is_ready = { λ f. ⊤ };
+
+    ghost is_plan = { λ f. IsSasPlan f.task.now };
+
+    fn plan(&self, alloc: Global, found: FoundPlan) -> Result<WrittenPlan<Vec<usize>>, AllocError> {
+        plan_text(alloc, self.task, found)
     }
 }
 
-/// Returns the solution with the texts of its plan and of its certificate, if it has one.
-fn solution_texts(
-    alloc: Global,
+/// Returns the answer for the task after these steps, as `solve_sas_steps` does.
+fn after_steps<R: AllocGlobal + Threads + Sync>(
+    rt: &R,
     task: &FdrTask,
-    solution: Solution,
-) -> Result<CheapestPlan<Vec<usize>>, AllocError>
-    requires { (wanted : Bool) × ((classes : List (List ℕ)) × IsSolution task.now (wants classes (then_some wanted FiniteDomain)) solution) }
-    ensures solution { (wanted : Bool) (classes : List (List ℕ)) (sas : List ℕ) → SpellsTask sas task.now →
-        IsSolution task.now (wants classes (then_some wanted FiniteDomain)) solution → IfOk result (IsSasSolution wanted sas task.now) }
-    ensures cost { IfOk result (λ s. s.found.cost ≡ solution.found.cost) }
+    options: &Options,
+    steps: &[WorldStep],
+) -> Result<SasAnswer, SearchFault>
+    ensures answer { (sas : List ℕ) → SpellsTask sas task.now → IfOk result (IsSasAnswer options.now.certificate sas (EndsAfter options.now steps.now)) }
+    ensures refused { IfErr result (IsRefusedAfter options.now steps.now task.now) }
 {
-    let cert = certificate_text(alloc, &solution.certificate)?;
-    let found = plan_text(alloc, task, solution.found)?;
-    Ok(CheapestPlan { found, cert })
-}
-
-/// Returns the result so far with the texts of the best plan and of the certificate, if it has one.
-fn known_texts(
-    alloc: Global,
-    task: &FdrTask,
-    known: SoFar,
-) -> Result<KnownSoFar<Vec<usize>>, AllocError>
-    requires { (wanted : Bool) × ((classes : List (List ℕ)) × ((most : Distance) × IsSoFar task.now (wants classes (then_some wanted FiniteDomain)) most known)) }
-    ensures known { (wanted : Bool) (classes : List (List ℕ)) (sas : List ℕ) (most : Distance) → SpellsTask sas task.now →
-        IsSoFar task.now (wants classes (then_some wanted FiniteDomain)) most known → IfOk result (IsSasKnown wanted sas task.now most) }
-    ensures bound { IfOk result (λ k. k.bound ≡ known.bound) }
-{
-    let cert = certificate_text(alloc, &known.certificate)?;
-    let best = best_text(alloc, task, known.best)?;
-    Ok(KnownSoFar {
-        bound: known.bound,
-        best,
-        cert,
-    })
-}
-
-/// Returns the answer with the texts of the finding of a search.
-fn answer_texts(alloc: Global, task: &FdrTask, found: Found) -> Result<SasAnswer, AllocError>
-    requires { (wanted : Bool) × IsTrueOf task.now (then_some wanted FiniteDomain) found }
-    ensures { (wanted : Bool) (classes : List (List ℕ)) (sas : List ℕ) (es : EndsOf spread.Zobrist) → SpellsTask sas task.now →
-        IsFoundFor task.now zobrist_owner es (wants classes (then_some wanted FiniteDomain)) found → IfOk result (IsSasAnswerFor wanted sas task.now es) }
-{
-    match found {
-        Found::Solved(solution) => Ok(Answer::Solved(solution_texts(alloc, task, solution)?)),
-        Found::Unsolvable(certificate) => {
-            Ok(Answer::Unsolvable(certificate_text(alloc, &certificate)?))
-        }
-        Found::Stopped(known) => Ok(Answer::Limit(known_texts(alloc, task, known)?)),
-    }
+    let alloc = rt.alloc();
+    let wanted = options.certificate().then_some(CertificateKind::Sas);
+    let found = found_after(rt, alloc, task, options, steps, wanted)?;
+    Ok(answer_in(alloc, &OperatorPlans { task }, found)?)
 }
 
 /// Returns the answer for the task that the text spells, after these steps of a world of owners: a cheapest plan, or
 /// that there is none; `Limit` with a lower bound on the cost of every plan, and possibly a plan, if the owners are not
-/// settled. If the options request a certificate, the answer has one, which the checker accepts if its text has at most
+/// settled. If the options request a certificate, the answer has one, whose text the checker accepts if it has at most
 /// 2^30 bytes. Stops before the first step that asks an owner for more nodes than its limit allows.
 ///
 /// Fails with the first fault of the text, with `TotalTooLarge` if a path would have a cost or a number of operators
@@ -145,11 +109,25 @@ pub fn solve_sas_steps<R: AllocGlobal + Threads + Sync>(
     ensures answer { IfOk result (IsSasAnswer options.now.certificate sas.now (EndsAfter options.now steps.now)) }
     ensures refused { IfErr result (IsSasRefusal sas.now (IsRefusedAfter options.now steps.now)) }
 {
+    let task = read_task(rt.alloc(), sas)?;
+    Ok(after_steps(rt, &task, options, steps)?)
+}
+
+/// Returns the answer for the task after random steps from the seed, as `simulate_sas` does.
+pub fn simulate_task<R: AllocGlobal + Threads + Sync, O: Observer>(
+    rt: &R,
+    task: &FdrTask,
+    options: &Options,
+    seed: u64,
+    observer: &O,
+) -> Result<SasAnswer, SearchFault>
+    ensures answer { (sas : List ℕ) → SpellsTask sas task.now → IfOk result (IsSasAnswer options.now.certificate sas (EndsBySeed options.now seed)) }
+    ensures refused { IfErr result (IsRefusedBySeed options.now seed task.now) }
+{
     let alloc = rt.alloc();
-    let task = read_task(alloc, sas)?;
     let wanted = options.certificate().then_some(CertificateKind::Sas);
-    let found = found_after(rt, alloc, &task, options, steps, wanted)?;
-    Ok(answer_texts(alloc, &task, found)?)
+    let found = found_by_seed(rt, alloc, task, options, seed, wanted, observer)?;
+    Ok(answer_in(alloc, &OperatorPlans { task }, found)?)
 }
 
 /// Returns the answer for the task that the text spells, after random steps from the seed, at most as many as the
@@ -166,24 +144,36 @@ pub fn simulate_sas<R: AllocGlobal + Threads + Sync, O: Observer>(
     ensures answer { IfOk result (IsSasAnswer options.now.certificate sas.now (EndsBySeed options.now seed)) }
     ensures refused { IfErr result (IsSasRefusal sas.now (IsRefusedBySeed options.now seed)) }
 {
+    let task = read_task(rt.alloc(), sas)?;
+    Ok(simulate_task(rt, &task, options, seed, observer)?)
+}
+
+/// Returns the answer for the task by the chosen number of workers, as `solve_sas` does.
+pub fn solve_task<R: Threads + Wait + Clock + Sync + AllocGlobal, G: EndingGate + Sync>(
+    rt: &R,
+    task: &FdrTask,
+    options: &Options,
+    gate: &G,
+) -> Result<SasAnswer, SearchFault>
+    ensures answer { (sas : List ℕ) → SpellsTask sas task.now → IfOk result (IsSasAnswer options.now.certificate sas (EndsByThreads options.now (G.may_stop gate.now))) }
+    ensures refused { IfErr result (IsRefusedByThreads options.now (G.may_stop gate.now) task.now) }
+{
     let alloc = rt.alloc();
-    let task = read_task(alloc, sas)?;
     let wanted = options.certificate().then_some(CertificateKind::Sas);
-    let found = found_by_seed(rt, alloc, &task, options, seed, wanted, observer)?;
-    Ok(answer_texts(alloc, &task, found)?)
+    let found = found_by_threads(rt, alloc, task, options, wanted, gate)?;
+    Ok(answer_in(alloc, &OperatorPlans { task }, found)?)
 }
 
 /// Returns the answer for the task that the text spells, by the chosen number of workers, each in a thread of its own:
 /// a cheapest plan, or that there is none; `Limit` with a lower bound on the cost of every plan, and possibly a plan,
 /// if the search ended before the owners were settled, by an owner's limit or by the gate. If the options request a
-/// certificate, the answer has one, which the checker accepts if its text has at most 2^30 bytes. If the options
-/// request stages, up to four searches follow one another, and `Limit` has the best of what all of them know.
+/// certificate, the answer has one, whose text the checker accepts if it has at most 2^30 bytes. If the options request
+/// stages, up to four searches follow one another, and `Limit` has the best of what all of them know.
 ///
 /// Fails with the first fault of the text, with `TotalTooLarge` if a path would have a cost or a number of operators
-/// above 2^62, with `Gate` if the gate makes the search fail, or if allocation fails. The contract does not state the
-/// causes of `Limit` and `TotalTooLarge`. Termination is not guaranteed: an unfair scheduler may keep every worker from
-/// making progress.
-pub fn solve_sas<R: Threads + Wait + Clock + Sync + AllocGlobal, G: Gate + Sync>(
+/// above 2^62, or if allocation fails. The contract does not state the causes of `Limit` and `TotalTooLarge`.
+/// Termination is not guaranteed: an unfair scheduler may keep every worker from making progress.
+pub fn solve_sas<R: Threads + Wait + Clock + Sync + AllocGlobal, G: EndingGate + Sync>(
     rt: &R,
     sas: &[u8],
     options: &Options,
@@ -192,9 +182,6 @@ pub fn solve_sas<R: Threads + Wait + Clock + Sync + AllocGlobal, G: Gate + Sync>
     ensures answer { IfOk result (IsSasAnswer options.now.certificate sas.now (EndsByThreads options.now (G.may_stop gate.now))) }
     ensures refused { IfErr result (IsSasRefusal sas.now (IsRefusedByThreads options.now (G.may_stop gate.now))) }
 {
-    let alloc = rt.alloc();
-    let task = read_task(alloc, sas)?;
-    let wanted = options.certificate().then_some(CertificateKind::Sas);
-    let found = found_by_threads(rt, alloc, &task, options, wanted, gate)?;
-    Ok(answer_texts(alloc, &task, found)?)
+    let task = read_task(rt.alloc(), sas)?;
+    Ok(solve_task(rt, &task, options, gate)?)
 }

@@ -1,3 +1,4 @@
 pub mod Replying
 pub mod Refusals
 pub mod Printed
+pub mod Texts

@@ -2,12 +2,13 @@
 use Rattle.std.specs.Prelude.{◌≡◌, ℕ, ◌⊎◌, Some}
 use Rattle.fdr.specs.Tasks.{FiniteDomainTask}
 use Rattle.packed_spread.specs.Spreads as spread
-use Rattle.optplan_search.specs.SearchEnds.{EndsOf}
+use Rattle.optplan_solver.specs.SearchEnds.{EndsOf}
 use Rattle.engine_round.specs.Turns.{MayStop}
-use Rattle.engine_round.specs.declared.gate.Stop.TheVariants.{Limit}
+use Rattle.engine_round.specs.declared.gate.Stop.{Stop}
+use Rattle.engine_round.specs.declared.gate.Stop.TheVariants.{Fail, Limit, Stage}
 use Rattle.optplan_options.specs.Choices.{Choices}
-use Rattle.optplan_search.specs.Searches.{EndsByThreads, IsRefusedByThreads, EndsBySeed, IsRefusedBySeed}
-use Rattle.optplan_search.specs.declared.fault.SearchFault.{SearchFault}
+use Rattle.optplan_solver.specs.Searches.{EndsByThreads, IsRefusedByThreads, EndsBySeed, IsRefusedBySeed}
+use Rattle.optplan_solver.specs.declared.fault.SearchFault.{SearchFault}
 use Rattle.optplan_solve.specs.declared.settings.Watch.{Watch}
 use Rattle.optplan_solve.specs.declared.settings.Schedule.{Schedule}
 use Rattle.optplan_solve.specs.declared.settings.Schedule.TheVariants.{Threads, Drawn}
@@ -20,6 +21,12 @@ IsLimited watch = ((s : ℕ) × (watch.seconds ≡ Some s)) ⊎ ((m : ℕ) × (w
 -- seconds or a memory are specified
 abbrev pub ends_in : Watch → MayStop
 ends_in watch worker turn stop = (stop ≡ Limit) × IsLimited watch
+
+-- the search fails
+abbrev pub IsFailure : Stop → Type 0
+IsFailure Fail = Unit {0}
+IsFailure Limit = ⊥
+IsFailure Stage = ⊥
 
 -- the ends of the searches for a task: with threads, within the seconds and the memory if these are specified, or of
 -- one by random steps from a seed

@@ -2,35 +2,45 @@
 use Rattle.std.specs.Prelude.{◌≡◌, ℕ, List, ◌++◌}
 use Rattle.optplan_device.specs.Events.{Event}
 use Rattle.optplan_options.specs.Choices.{Choices}
-use Rattle.optplan_pddl.specs.Answers.{IsPlanningAnswer, IsPlanningRefusal}
-use Rattle.optplan_pddl.specs.declared.fault.PlanningFault.TheVariants as planning
+use Rattle.translate.specs.declared.fault.SizeFault.TheVariants as size
+use Rattle.optplan_solver.specs.declared.fault.SearchFault.{SearchFault}
+use Rattle.optplan_pddl.specs.Answers.{IsPlanningAnswer, IsPrepareRefusal, IsSearchRefusal}
+use Rattle.optplan_pddl.specs.declared.fault.PrepareFault.TheVariants.{Size}
 use Rattle.optplan_replies.specs.declared.status.Status.{Status}
 use Rattle.optplan_replies.specs.Reports.{IsTaskReport}
 use Rattle.optplan_replies.specs.Runs.{task_reads}
 use Rattle.optplan_replies.specs.declared.fault.Fault.{Fault}
 use Rattle.optplan_replies.specs.declared.fault.Fault.TheVariants.{OutOfMemory, CannotRead, CannotWrite, Task, Plan, Sas, Cert, GroundLimit, TaskTooLarge, TotalTooLarge}
-use Rattle.optplan_solve.specs.Outputs.{OutputFiles, Replies}
+use Rattle.optplan_solve.specs.Outputs.{OutputFiles, Concludes, fault_of_search}
 use Rattle.optplan_solve.specs.Schedules.{EndsBy, IsRefusedBy}
 use Rattle.optplan_solve.specs.declared.settings.Schedule.{Schedule}
 
--- the texts are refused as the planner refuses them, with the program's fault
-abbrev pub IsSolveRefusal : List ℕ → List ℕ → Choices → Schedule → Fault → Type 0
-IsSolveRefusal domain problem choices schedule OutOfMemory = Unit {0}
-IsSolveRefusal domain problem choices schedule (CannotRead file) = ⊥
-IsSolveRefusal domain problem choices schedule (CannotWrite file) = ⊥
-IsSolveRefusal domain problem choices schedule (Task e word) = IsTaskReport domain problem (Task e word)
-IsSolveRefusal domain problem choices schedule (Plan e) = ⊥
-IsSolveRefusal domain problem choices schedule (Sas e) = ⊥
-IsSolveRefusal domain problem choices schedule (Cert e) = ⊥
-IsSolveRefusal domain problem choices schedule GroundLimit = IsPlanningRefusal domain problem (IsRefusedBy choices schedule) planning.GroundLimit
-IsSolveRefusal domain problem choices schedule (TaskTooLarge table) = IsPlanningRefusal domain problem (IsRefusedBy choices schedule) (planning.TaskTooLarge table)
-IsSolveRefusal domain problem choices schedule TotalTooLarge = IsPlanningRefusal domain problem (IsRefusedBy choices schedule) planning.TotalTooLarge
+-- the texts are refused for their first fault; or they spell a task that is too large, or whose translation is; with
+-- the program's fault
+abbrev pub IsTextRefusal : List ℕ → List ℕ → Fault → Type 0
+IsTextRefusal domain problem OutOfMemory = Unit {0}
+IsTextRefusal domain problem (CannotRead file) = ⊥
+IsTextRefusal domain problem (CannotWrite file) = ⊥
+IsTextRefusal domain problem (Task e word) = IsTaskReport domain problem (Task e word)
+IsTextRefusal domain problem (Plan e) = ⊥
+IsTextRefusal domain problem (Sas e) = ⊥
+IsTextRefusal domain problem (Cert e) = ⊥
+IsTextRefusal domain problem GroundLimit = IsPrepareRefusal domain problem (Size size.GroundLimit)
+IsTextRefusal domain problem (TaskTooLarge table) = IsPrepareRefusal domain problem (Size (size.Limit table))
+IsTextRefusal domain problem TotalTooLarge = ⊥
 
--- the two files are read, in this order; then an answer is written and printed, or one of the texts is refused
+-- the search of what the texts spell is refused, with the program's fault
+pub record IsSearchReport (domain problem : List ℕ) (choices : Choices) (schedule : Schedule) (e : Fault) : Type 0 where
+  pub fault : SearchFault
+  pub refused : IsSearchRefusal domain problem (IsRefusedBy choices schedule) fault
+  pub fault_is : e ≡ fault_of_search fault
+
+-- the two files are read, in this order; then one of the texts is refused; or the requested files are created or
+-- emptied, and an answer is written and printed, or the search is refused
 pub record Solves (old new : List Event) (domain problem : List ℕ) (choices : Choices) (schedule : Schedule) (files : OutputFiles) (status : Status) : Type 0 where
   pub domain_text : List ℕ
   pub problem_text : List ℕ
   pub later : List Event
   pub events : new ≡ old ++ (task_reads domain domain_text problem problem_text ++ later)
-  pub follows : Replies (IsPlanningAnswer choices.certificate domain_text problem_text (EndsBy choices schedule)) (IsSolveRefusal domain_text problem_text choices schedule) files later
-      status
+  pub follows : Concludes (IsTextRefusal domain_text problem_text) (IsPlanningAnswer choices.certificate domain_text problem_text (EndsBy choices schedule))
+      (IsSearchReport domain_text problem_text choices schedule) files later status

@@ -1,6 +1,8 @@
 //! The commands that solve a task, over any device: what each reads, writes and prints, and its exit status.
 #![tactic(auto)]
 
+mod clock;
+mod faults;
 mod outputs;
 mod sas_solving;
 mod settings;

@@ -1,83 +1,141 @@
 //! The command that solves a finite-domain task, over any device.
 
-ghost use Rattle.std.specs.Prelude.{◌≡◌, ◌≢◌, ◌≤◌, ◌+◌, ℕ, List, Some, IfOk, IfErr};
+ghost use Rattle.std.specs.Prelude.{◌≡◌, ◌≢◌, ◌≤◌, ◌+◌, ◌++◌, ℕ, List, Some, IfOk, IfErr};
+ghost use Rattle.sasfile_reader.specs.SasTexts.{SpellsTask};
 ghost use Rattle.optplan_device.specs.Events.{Event};
-ghost use Rattle.optplan_options.specs.Choices.{Choices};
-ghost use Rattle.optplan_sas.specs.SasAnswers.{IsSasAnswer, IsSasRefusal};
-ghost use Rattle.optplan_solve.specs.Outputs.{files_of};
+ghost use Rattle.optplan_replies.specs.Runs.{IsUnput};
+ghost use Rattle.optplan_sas.specs.SasAnswers.{IsSasAnswer};
+ghost use Rattle.optplan_solve.specs.Outputs.{files_of, creations, Replies, Concludes};
 ghost use Rattle.optplan_solve.specs.Schedules.{EndsBy, IsRefusedBy};
-ghost use Rattle.optplan_solve.specs.declared.settings.Schedule.{Schedule};
-ghost use Rattle.optplan_solve.specs.SasSolving.{IsSasSolveRefusal, SolvesSas};
+ghost use Rattle.optplan_solve.specs.SasSolving.{IsSasTextRefusal, IsSasSearchReport, SolvesSas};
 
-use crate::outputs::reply_answer;
+use crate::clock::start_of;
+use crate::faults::search_fault;
+use crate::outputs::{create_files, reply_answer};
 use crate::settings::{Schedule, Settings};
 use crate::watcher::{Narrator, Watcher};
+use fdr::FdrTask;
 use optplan_device::Device;
 use optplan_replies::{Fault, FileWord, Status, read_file, report};
-use optplan_sas::{SasAnswer, SasSolveFault, simulate_sas, solve_sas};
+use optplan_sas::{SasAnswer, simulate_task, solve_task};
+use optplan_solver::SearchFault;
+use sasfile::read_sas;
+use std::alloc::Global;
 use std::sync::Wait;
 use std::thread::Threads;
-use std::time::Clock;
+use std::time::{Clock, Instant};
 
-/// Converts the solver's fault into the program's. The gates of the commands make no search fail.
-fn solve_fault(fault: SasSolveFault) -> Fault
-    requires { (sas : List ℕ) × ((choices : Choices) × ((schedule : Schedule) × IsSasRefusal sas (IsRefusedBy choices schedule) fault)) }
-    ensures { (sas : List ℕ) (choices : Choices) (schedule : Schedule) → IsSasRefusal sas (IsRefusedBy choices schedule) fault → IsSasSolveRefusal sas choices schedule result }
+/// Returns the task that the text spells. Fails with the first fault of the text, or if allocation fails.
+fn task_in(alloc: Global, sas: &[u8]) -> Result<FdrTask, Fault>
+    ensures spelled { IfOk result (SpellsTask sas.now) }
+    ensures refused { IfErr result (IsSasTextRefusal sas.now) }
 {
-    match fault {
-        SasSolveFault::OutOfMemory => Fault::OutOfMemory,
-        SasSolveFault::Sas(fault) => Fault::Sas(fault),
-        SasSolveFault::TotalTooLarge => Fault::TotalTooLarge,
-        SasSolveFault::Gate(_, _) => unreachable!(),
+    match read_sas(alloc, sas) {
+        Ok(task) => Ok(task),
+        Err(fault) => Err(Fault::from(fault)),
     }
 }
 
-/// Returns the answer for the task that the text spells, by the schedule of the settings, whose seconds count from this
-/// call. Fails as the solver does.
+/// Returns the answer for a task, by the schedule of the settings, whose seconds count from `start`.
 fn solved<R: Threads + Wait + Clock + Eprint + Sync + AllocGlobal>(
     rt: &R,
-    sas: &[u8],
+    task: &FdrTask,
     settings: &Settings<'_>,
-) -> Result<SasAnswer, SasSolveFault>
-    ensures answer { IfOk result (IsSasAnswer settings.now.options.certificate sas.now (EndsBy settings.now.options settings.now.schedule)) }
-    ensures refused { IfErr result (IsSasRefusal sas.now (IsRefusedBy settings.now.options settings.now.schedule)) }
+    start: Option<Instant>,
+) -> Result<SasAnswer, SearchFault>
+    ensures answer { (sas : List ℕ) → SpellsTask sas task.now →
+        IfOk result (IsSasAnswer settings.now.options.certificate sas (EndsBy settings.now.options settings.now.schedule)) }
+    ensures refused { IfErr result (IsRefusedBy settings.now.options settings.now.schedule task.now) }
 {
     match settings.schedule {
         Schedule::Threads(watch) => {
             let workers = settings.options.workers();
-            let watcher = Watcher::new(rt, rt.alloc(), watch, workers, settings.progress)?;
-            solve_sas(rt, sas, &settings.options, &watcher)
+            let tells = settings.progress;
+            let watcher = Watcher::new(rt, rt.alloc(), watch, workers, tells, start)?;
+            solve_task(rt, task, &settings.options, &watcher)
         }
         Schedule::Drawn(seed) => {
             let narrator = Narrator::new(rt, settings.progress);
-            simulate_sas(rt, sas, &settings.options, seed, &narrator)
+            simulate_task(rt, task, &settings.options, seed, &narrator)
         }
     }
 }
 
-/// Returns the answer for the task that the text spells.
-///
-/// Fails with the first fault of the text, with `TotalTooLarge` if a path's total is too large, or if allocation fails.
+/// Returns the answer for a task, as `solved` does, with the program's fault.
 fn answer_of<R: Threads + Wait + Clock + Eprint + Sync + AllocGlobal>(
     rt: &R,
-    sas: &[u8],
+    task: &FdrTask,
     settings: &Settings<'_>,
+    start: Option<Instant>,
 ) -> Result<SasAnswer, Fault>
-    ensures answer { IfOk result (IsSasAnswer settings.now.options.certificate sas.now (EndsBy settings.now.options settings.now.schedule)) }
-    ensures refused { IfErr result (IsSasSolveRefusal sas.now settings.now.options settings.now.schedule) }
+    ensures answer { (sas : List ℕ) → SpellsTask sas task.now →
+        IfOk result (IsSasAnswer settings.now.options.certificate sas (EndsBy settings.now.options settings.now.schedule)) }
+    ensures refused { (sas : List ℕ) → SpellsTask sas task.now → IfErr result (IsSasSearchReport sas settings.now.options settings.now.schedule) }
 {
-    match solved(rt, sas, settings) {
+    match solved(rt, task, settings, start) {
         Ok(answer) => Ok(answer),
-        Err(fault) => Err(solve_fault(fault)),
+        Err(fault) => Err(search_fault(fault)),
     }
 }
 
-/// Solves a finite-domain task with threads, or by random steps from a seed: reads the file; then writes the
-/// certificate and the plan, if requested, and prints the plan, `unsolvable`, or `limit` with a bound and the best plan
-/// so far; or reports a fault.
+/// Creates the requested files, searches, and writes and prints the answer, or reports a fault. Returns the exit
+/// status.
+fn solve_read<D: Device, R: Threads + Wait + Clock + Eprint + Sync + AllocGlobal>(
+    rt: &R,
+    device: &mut D,
+    task: &FdrTask,
+    settings: &Settings<'_>,
+    start: Option<Instant>,
+) -> Status
+    requires { (sas : List ℕ) × SpellsTask sas task.now }
+    ensures done { (h : List Event) (sas : List ℕ) → SpellsTask sas task.now →
+        D.history device.old ≡ Some h → D.failure_count device.new ≡ D.failure_count device.old → result ≢ Status.OutOfMemory →
+        (rest : List Event) × (D.history device.new ≡ Some (h ++ (creations (files_of settings.now) ++ rest)))
+        × Replies (IsSasAnswer settings.now.options.certificate sas (EndsBy settings.now.options settings.now.schedule))
+        (IsSasSearchReport sas settings.now.options settings.now.schedule) (files_of settings.now) rest result }
+    ensures device_failed { result ≡ Status.DeviceFailed → D.failure_count device.old + 1 ≤ D.failure_count device.new }
+    ensures unput { result ≡ Status.OutOfMemory → IsUnput (D.history device.old) (D.history device.new) }
+{
+    match create_files(device, settings) {
+        Ok(()) => {
+            let answer = answer_of(rt, task, settings, start);
+            reply_answer(rt.alloc(), device, &answer, settings)
+        }
+        Err(fault) => report(rt.alloc(), device, &fault),
+    }
+}
+
+/// Solves the task that the text spells, and returns the exit status. The text is dropped before the search.
+fn solve_text<D: Device, R: Threads + Wait + Clock + Eprint + Sync + AllocGlobal>(
+    rt: &R,
+    device: &mut D,
+    sas: Vec<u8>,
+    settings: &Settings<'_>,
+) -> Status
+    ensures done { (h : List Event) → D.history device.old ≡ Some h → D.failure_count device.new ≡ D.failure_count device.old → result ≢ Status.OutOfMemory →
+        (later : List Event) × (D.history device.new ≡ Some (h ++ later))
+        × Concludes (IsSasTextRefusal sas.items) (IsSasAnswer settings.now.options.certificate sas.items (EndsBy settings.now.options settings.now.schedule))
+        (IsSasSearchReport sas.items settings.now.options settings.now.schedule) (files_of settings.now) later result }
+    ensures device_failed { result ≡ Status.DeviceFailed → D.failure_count device.old + 1 ≤ D.failure_count device.new }
+    ensures unput { result ≡ Status.OutOfMemory → IsUnput (D.history device.old) (D.history device.new) }
+{
+    let start = start_of(rt, settings);
+    let task = task_in(rt.alloc(), &sas);
+    drop(sas);
+    match task {
+        Ok(task) => solve_read(rt, device, &task, settings, start),
+        Err(fault) => report(rt.alloc(), device, &fault),
+    }
+}
+
+/// Solves a finite-domain task with threads, or by random steps from a seed: reads the file; if it spells a task,
+/// creates or empties the files for the certificate and the plan, if requested; then searches, writes the certificate
+/// and the plan, and prints the plan, `unsolvable`, or `limit` with a bound and the best plan so far; or reports a
+/// fault.
 ///
 /// Returns the exit status: `Done` with a cheapest plan, `Unsolvable` if there is none, `Limited` at a limit, or the
-/// fault's status. No plan is written if there is none.
+/// fault's status. The file for the plan stays empty if there is none. If a file or standard output cannot be written,
+/// the others still are, and the status is `DeviceFailed`.
 pub fn run_solve_sas<D: Device, R: Threads + Wait + Clock + Eprint + Sync + AllocGlobal>(
     rt: &R,
     device: &mut D,
@@ -87,12 +145,10 @@ pub fn run_solve_sas<D: Device, R: Threads + Wait + Clock + Eprint + Sync + Allo
     ensures done { (h : List Event) → D.history device.old ≡ Some h → D.failure_count device.new ≡ D.failure_count device.old → result ≢ Status.OutOfMemory →
         (new : List Event) × (D.history device.new ≡ Some new) × SolvesSas h new sas.now settings.now.options settings.now.schedule (files_of settings.now) result }
     ensures device_failed { result ≡ Status.DeviceFailed → D.failure_count device.old + 1 ≤ D.failure_count device.new }
+    ensures unput { result ≡ Status.OutOfMemory → IsUnput (D.history device.old) (D.history device.new) }
 {
     match read_file(rt.alloc(), device, sas, FileWord::Sas) {
-        Ok(sas) => {
-            let answer = answer_of(rt, &sas, settings);
-            reply_answer(rt.alloc(), device, &answer, settings)
-        }
+        Ok(sas) => solve_text(rt, device, sas, settings),
         Err(fault) => report(rt.alloc(), device, &fault),
     }
 }

@@ -1,6 +1,6 @@
 //! The settings of a solve command, apart from its task.
 
-use optplan_sas::Options;
+use optplan_solver::Options;
 
 /// External limits of a multi-threaded search: it ends as at a limit, before the next turn of each owner.
 #[derive(Clone, Copy, Debug, PartialEq, Eq)]

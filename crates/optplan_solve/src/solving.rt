@@ -1,90 +1,170 @@
 //! The command that solves a planning task, over any device.
 
-ghost use Rattle.std.specs.Prelude.{◌≡◌, ◌≢◌, ◌≤◌, ◌+◌, List, Some, IfOk, IfErr};
+ghost use Rattle.std.specs.Prelude.{◌≡◌, ◌≢◌, ◌≤◌, ◌+◌, ◌++◌, ℕ, List, Some, IfOk, IfErr};
 ghost use Rattle.optplan_device.specs.Events.{Event};
-ghost use Rattle.optplan_options.specs.Choices.{Choices};
-ghost use Rattle.optplan_pddl.specs.Answers.{IsPlanningAnswer, IsPlanningRefusal};
-ghost use Rattle.optplan_solve.specs.Outputs.{files_of};
+ghost use Rattle.optplan_replies.specs.Runs.{IsUnput};
+ghost use Rattle.optplan_pddl.specs.Answers.{IsPlanningAnswer, IsPrepareRefusal, IsSearchRefusal};
+ghost use Rattle.optplan_pddl.specs.Prepared.{IsPrepared};
+ghost use Rattle.optplan_solve.specs.Outputs.{files_of, creations, Replies, Concludes};
 ghost use Rattle.optplan_solve.specs.Schedules.{EndsBy, IsRefusedBy};
-ghost use Rattle.optplan_solve.specs.declared.settings.Schedule.{Schedule};
-ghost use Rattle.optplan_solve.specs.Solving.{IsSolveRefusal, Solves};
+ghost use Rattle.optplan_solve.specs.Solving.{IsTextRefusal, IsSearchReport, Solves};
 
-use crate::outputs::reply_answer;
+use crate::clock::start_of;
+use crate::faults::search_fault;
+use crate::outputs::{create_files, reply_answer};
 use crate::settings::{Schedule, Settings};
 use crate::watcher::{Narrator, Watcher};
 use optplan_device::Device;
-use optplan_pddl::{PlanningAnswer, PlanningFault, simulate, solve};
+use optplan_pddl::{PlanningAnswer, PrepareFault, Prepared, prepare};
 use optplan_replies::{Fault, Status, read_task_files, report, task_fault};
+use optplan_solver::SearchFault;
 use std::alloc::Global;
 use std::sync::Wait;
 use std::thread::Threads;
-use std::time::Clock;
+use std::time::{Clock, Instant};
+use translate::SizeFault;
 
-/// Converts the planner's fault into the program's. The gates of the commands make no search fail.
-fn solve_fault(alloc: Global, fault: PlanningFault, domain: &[u8], problem: &[u8]) -> Fault
-    requires { (choices : Choices) × ((schedule : Schedule) × IsPlanningRefusal domain.now problem.now (IsRefusedBy choices schedule) fault) }
-    ensures { (choices : Choices) (schedule : Schedule) → IsPlanningRefusal domain.now problem.now (IsRefusedBy choices schedule) fault →
-        IsSolveRefusal domain.now problem.now choices schedule result }
+/// Converts the fault of the texts into the program's.
+fn text_fault(alloc: Global, fault: PrepareFault, domain: &[u8], problem: &[u8]) -> Fault
+    requires { IsPrepareRefusal domain.now problem.now fault }
+    ensures { IsTextRefusal domain.now problem.now result }
 {
     match fault {
-        PlanningFault::OutOfMemory => Fault::OutOfMemory,
-        PlanningFault::Task(fault) => task_fault(alloc, fault, domain, problem),
-        PlanningFault::GroundLimit => Fault::GroundLimit,
-        PlanningFault::TaskTooLarge(table) => Fault::TaskTooLarge(table),
-        PlanningFault::TotalTooLarge => Fault::TotalTooLarge,
-        PlanningFault::Gate(_, _) => unreachable!(),
+        PrepareFault::Reading(fault) => task_fault(alloc, fault, domain, problem),
+        PrepareFault::Size(SizeFault::OutOfMemory) => Fault::OutOfMemory,
+        PrepareFault::Size(SizeFault::GroundLimit) => Fault::GroundLimit,
+        PrepareFault::Size(SizeFault::Limit(table)) => Fault::TaskTooLarge(table),
     }
 }
 
-/// Returns the answer for the task that the texts spell, by the schedule of the settings, whose seconds count from this
-/// call. Fails as the planner does.
-fn planned<R: Threads + Wait + Clock + Eprint + Sync + AllocGlobal>(
-    rt: &R,
+/// Returns the task that the texts spell, prepared for a search. Fails with the first fault of the texts, if the task
+/// or its translation exceeds a limit, or if allocation fails.
+fn prepared(
+    alloc: Global,
     domain: &[u8],
     problem: &[u8],
+    certificate: bool,
+) -> Result<Prepared, Fault>
+    ensures prepared { IfOk result (IsPrepared certificate domain.now problem.now) }
+    ensures refused { IfErr result (IsTextRefusal domain.now problem.now) }
+{
+    match prepare(alloc, domain, problem, certificate) {
+        Ok(prepared) => Ok(prepared),
+        Err(fault) => Err(text_fault(alloc, fault, domain, problem)),
+    }
+}
+
+/// Returns the answer for a task, by the schedule of the settings, whose seconds count from `start`.
+fn planned<R: Threads + Wait + Clock + Eprint + Sync + AllocGlobal>(
+    rt: &R,
+    prepared: Prepared,
     settings: &Settings<'_>,
-) -> Result<PlanningAnswer, PlanningFault>
-    ensures answer { IfOk result (IsPlanningAnswer settings.now.options.certificate domain.now problem.now (EndsBy settings.now.options settings.now.schedule)) }
-    ensures refused { IfErr result (IsPlanningRefusal domain.now problem.now (IsRefusedBy settings.now.options settings.now.schedule)) }
+    start: Option<Instant>,
+) -> Result<PlanningAnswer, SearchFault>
+    requires { (domain : List ℕ) × ((problem : List ℕ) × IsPrepared settings.now.options.certificate domain problem prepared) }
+    ensures answer { (domain problem : List ℕ) → IsPrepared settings.now.options.certificate domain problem prepared →
+        IfOk result (IsPlanningAnswer settings.now.options.certificate domain problem (EndsBy settings.now.options settings.now.schedule)) }
+    ensures refused { (domain problem : List ℕ) → IsPrepared settings.now.options.certificate domain problem prepared →
+        IfErr result (IsSearchRefusal domain problem (IsRefusedBy settings.now.options settings.now.schedule)) }
 {
     match settings.schedule {
         Schedule::Threads(watch) => {
             let workers = settings.options.workers();
-            let watcher = Watcher::new(rt, rt.alloc(), watch, workers, settings.progress)?;
-            solve(rt, domain, problem, &settings.options, &watcher)
+            let tells = settings.progress;
+            let watcher = Watcher::new(rt, rt.alloc(), watch, workers, tells, start)?;
+            prepared.solve(rt, &settings.options, &watcher)
         }
         Schedule::Drawn(seed) => {
             let narrator = Narrator::new(rt, settings.progress);
-            simulate(rt, domain, problem, &settings.options, seed, &narrator)
+            prepared.simulate(rt, &settings.options, seed, &narrator)
         }
     }
 }
 
-/// Returns the answer for the task that the texts spell.
-///
-/// Fails with the first fault of the texts, if the task, its translation or a path's total exceeds a limit, or if
-/// allocation fails.
+/// Returns the answer for a task, as `planned` does, with the program's fault.
 fn answer_of<R: Threads + Wait + Clock + Eprint + Sync + AllocGlobal>(
     rt: &R,
-    domain: &[u8],
-    problem: &[u8],
+    prepared: Prepared,
     settings: &Settings<'_>,
+    start: Option<Instant>,
 ) -> Result<PlanningAnswer, Fault>
-    ensures answer { IfOk result (IsPlanningAnswer settings.now.options.certificate domain.now problem.now (EndsBy settings.now.options settings.now.schedule)) }
-    ensures refused { IfErr result (IsSolveRefusal domain.now problem.now settings.now.options settings.now.schedule) }
+    requires { (domain : List ℕ) × ((problem : List ℕ) × IsPrepared settings.now.options.certificate domain problem prepared) }
+    ensures answer { (domain problem : List ℕ) → IsPrepared settings.now.options.certificate domain problem prepared →
+        IfOk result (IsPlanningAnswer settings.now.options.certificate domain problem (EndsBy settings.now.options settings.now.schedule)) }
+    ensures refused { (domain problem : List ℕ) → IsPrepared settings.now.options.certificate domain problem prepared →
+        IfErr result (IsSearchReport domain problem settings.now.options settings.now.schedule) }
 {
-    match planned(rt, domain, problem, settings) {
+    match planned(rt, prepared, settings, start) {
         Ok(answer) => Ok(answer),
-        Err(fault) => Err(solve_fault(rt.alloc(), fault, domain, problem)),
+        Err(fault) => Err(search_fault(fault)),
     }
 }
 
-/// Solves a planning task with threads, or by random steps from a seed: reads the two files; then writes the
-/// certificate and the plan, if requested, and prints the plan, `unsolvable`, or `limit` with a bound and the best plan
-/// so far; or reports a fault.
+/// Creates the requested files, searches, and writes and prints the answer, or reports a fault. Returns the exit
+/// status.
+fn solve_prepared<D: Device, R: Threads + Wait + Clock + Eprint + Sync + AllocGlobal>(
+    rt: &R,
+    device: &mut D,
+    prepared: Prepared,
+    settings: &Settings<'_>,
+    start: Option<Instant>,
+) -> Status
+    requires { (domain : List ℕ) × ((problem : List ℕ) × IsPrepared settings.now.options.certificate domain problem prepared) }
+    ensures done { (h : List Event) (domain problem : List ℕ) → IsPrepared settings.now.options.certificate domain problem prepared →
+        D.history device.old ≡ Some h → D.failure_count device.new ≡ D.failure_count device.old → result ≢ Status.OutOfMemory →
+        (rest : List Event) × (D.history device.new ≡ Some (h ++ (creations (files_of settings.now) ++ rest)))
+        × Replies (IsPlanningAnswer settings.now.options.certificate domain problem (EndsBy settings.now.options settings.now.schedule))
+        (IsSearchReport domain problem settings.now.options settings.now.schedule) (files_of settings.now) rest result }
+    ensures device_failed { result ≡ Status.DeviceFailed → D.failure_count device.old + 1 ≤ D.failure_count device.new }
+    ensures unput { result ≡ Status.OutOfMemory → IsUnput (D.history device.old) (D.history device.new) }
+{
+    match create_files(device, settings) {
+        Ok(()) => {
+            let answer = answer_of(rt, prepared, settings, start);
+            reply_answer(rt.alloc(), device, &answer, settings)
+        }
+        Err(fault) => report(rt.alloc(), device, &fault),
+    }
+}
+
+/// Solves the task that the texts spell, and returns the exit status. The texts are dropped before the search.
+fn solve_texts<D: Device, R: Threads + Wait + Clock + Eprint + Sync + AllocGlobal>(
+    rt: &R,
+    device: &mut D,
+    domain: Vec<u8>,
+    problem: Vec<u8>,
+    settings: &Settings<'_>,
+) -> Status
+    ensures done { (h : List Event) → D.history device.old ≡ Some h → D.failure_count device.new ≡ D.failure_count device.old → result ≢ Status.OutOfMemory →
+        (later : List Event) × (D.history device.new ≡ Some (h ++ later))
+        × Concludes (IsTextRefusal domain.items problem.items)
+        (IsPlanningAnswer settings.now.options.certificate domain.items problem.items (EndsBy settings.now.options settings.now.schedule))
+        (IsSearchReport domain.items problem.items settings.now.options settings.now.schedule) (files_of settings.now) later result }
+    ensures device_failed { result ≡ Status.DeviceFailed → D.failure_count device.old + 1 ≤ D.failure_count device.new }
+    ensures unput { result ≡ Status.OutOfMemory → IsUnput (D.history device.old) (D.history device.new) }
+{
+    let start = start_of(rt, settings);
+    let prepared = prepared(
+        rt.alloc(),
+        &domain,
+        &problem,
+        settings.options.certificate(),
+    );
+    drop((domain, problem));
+    match prepared {
+        Ok(prepared) => solve_prepared(rt, device, prepared, settings, start),
+        Err(fault) => report(rt.alloc(), device, &fault),
+    }
+}
+
+/// Solves a planning task with threads, or by random steps from a seed: reads the two files; if they spell a task,
+/// creates or empties the files for the certificate and the plan, if requested; then searches, writes the certificate
+/// and the plan, and prints the plan, `unsolvable`, or `limit` with a bound and the best plan so far; or reports a
+/// fault.
 ///
 /// Returns the exit status: `Done` with a cheapest plan, `Unsolvable` if there is none, `Limited` at a limit, or the
-/// fault's status. No plan is written if there is none.
+/// fault's status. The file for the plan stays empty if there is none. If a file or standard output cannot be written,
+/// the others still are, and the status is `DeviceFailed`.
 pub fn run_solve<D: Device, R: Threads + Wait + Clock + Eprint + Sync + AllocGlobal>(
     rt: &R,
     device: &mut D,
@@ -96,12 +176,10 @@ pub fn run_solve<D: Device, R: Threads + Wait + Clock + Eprint + Sync + AllocGlo
         (new : List Event) × (D.history device.new ≡ Some new)
         × Solves h new domain.now problem.now settings.now.options settings.now.schedule (files_of settings.now) result }
     ensures device_failed { result ≡ Status.DeviceFailed → D.failure_count device.old + 1 ≤ D.failure_count device.new }
+    ensures unput { result ≡ Status.OutOfMemory → IsUnput (D.history device.old) (D.history device.new) }
 {
     match read_task_files(rt.alloc(), device, domain, problem) {
-        Ok((domain, problem)) => {
-            let answer = answer_of(rt, &domain, &problem, settings);
-            reply_answer(rt.alloc(), device, &answer, settings)
-        }
+        Ok((domain, problem)) => solve_texts(rt, device, domain, problem, settings),
         Err(fault) => report(rt.alloc(), device, &fault),
     }
 }

@@ -1,7 +1,7 @@
 //! The progress of a multi-threaded search, from the reports of its workers.
 
 use cost::{Dist, MAX_DISTANCE};
-use optplan_sas::{Progress, Reached};
+use optplan_solver::{Progress, Reached};
 use std::alloc::{AllocError, Global};
 use std::sync::atomic::{AtomicU64, Ordering};
 

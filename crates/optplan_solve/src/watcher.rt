@@ -5,7 +5,7 @@ ghost use Rattle.std.specs.Prelude.{◌≡◌, IfOk};
 
 use crate::settings::Watch;
 use crate::tally::Tally;
-use optplan_sas::{Gate, Observer, Progress, Reached, Stop};
+use optplan_solver::{EndingGate, Gate, Observer, Progress, Reached, Stop};
 use std::alloc::{AllocError, Global};
 use std::time::{Clock, Duration, Instant};
 
@@ -17,7 +17,7 @@ const BYTES_OF_A_WORD: u128 = 8;
 
 const BYTES_OF_A_MEBIBYTE: u128 = 1_048_576;
 
-/// The gate that ends a search as at a limit once its seconds have passed since the gate was made, or a worker stores
+/// The gate that ends a search as at a limit once its seconds have passed since its start, or a worker stores
 /// more than its share of the memory; and that reports progress once a second, if requested.
 #[derive(Drop)]
 pub(crate) struct Watcher<'a, R: Clock + Eprint + Sync> {
@@ -25,7 +25,7 @@ pub(crate) struct Watcher<'a, R: Clock + Eprint + Sync> {
     watch: Watch,
     /// The number of workers among which the memory is divided.
     workers: usize,
-    /// When it was made; `None` if the clock could not be read, or need not be.
+    /// When the time began; `None` if the clock could not be read, or need not be.
     start: Option<Instant>,
     /// The reports of the workers; `None` if no line is to be printed.
     tally: Option<Tally>,
@@ -42,21 +42,17 @@ fn is_past(mebibytes: u64, workers: usize, progress: &Progress) -> bool {
 
 impl<'a, R: Clock + Eprint + Sync> Watcher<'a, R> {
     /// Creates the watcher of a search by `workers` workers, which reports progress or does not. The time counts from
-    /// this call; if the clock cannot be read, no time ends the search, and no progress is reported.
+    /// `start`; without it no time ends the search, and no progress is reported.
     pub(crate) fn new(
         rt: &'a R,
         alloc: Global,
         watch: Watch,
         workers: usize,
         tells: bool,
+        start: Option<Instant>,
     ) -> Result<Watcher<'a, R>, AllocError>
         ensures { IfOk result (λ w. w.watch ≡ watch) }
     {
-        let start = if watch.seconds.is_some() || tells {
-            Instant::now(rt).ok()
-        } else {
-            None
-        };
         let tally = if tells {
             Some(Tally::new(alloc, workers)?)
         } else {
@@ -143,6 +139,13 @@ impl<'a, R: Clock + Eprint + Sync> Gate for Watcher<'a, R> {
             );
         }
     }
+}
+
+impl<'a, R: Clock + Eprint + Sync> EndingGate for Watcher<'a, R> {
+    ghost use Rattle.std.proofs.Common.{subst};
+    ghost use Rattle.optplan_solve.specs.Schedules.{IsFailure};
+
+    ghost never_fails = { λ gate worker turn stops. subst IsFailure stops.0 tt };
 }
 
 /// The observer that reports the progress of a search by random steps, if requested.

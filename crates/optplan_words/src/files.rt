@@ -77,6 +77,9 @@ consists of the line unsolvable claims that there is no valid plan. Then the lin
   at least B                  every valid plan costs at least B (status 3)
   rejected CLAUSE PLACE       the certificate fails in this clause, C0 to C8, at this place (status 3)
 
+The plan may be as other tools write it: after a first line, limit N, with time stamps that ascend, 0.0: (go a b), and
+durations, [1.0].
+
 A text that cannot be read is refused with one line on standard error (status 1).";
 
 const TRANSLATE_ABOUT: &str =

@@ -1,22 +1,7 @@
-//! Reads the texts of finite-domain tasks: `output.sas`, version 3, as Fast Downward's translator writes it (Helmert
-//! 2009).
-//!
-//! A text is read exactly if it spells a task. Otherwise reading fails with the first fault of the text, its kind and
-//! line.
+//! The text form of finite-domain tasks (`output.sas`, version 3): reading, writing, and the texts of their plans.
 #![tactic(auto)]
 
-mod effects;
-mod facts;
-mod fault;
-mod laws;
-mod line_forms;
-mod lines;
-mod number;
-mod operators;
-mod pieces;
-mod reading;
-mod variables;
-
-pub use fault::SasFault;
-pub use laws::{no_fault, one_reading, spelled_or_not};
-pub use reading::read_sas;
+pub use sasfile_reader::{SasFault, no_fault, one_reading, read_sas, spelled_or_not};
+pub use sasfile_writer::{
+    sas_plan_text, text_order_has_same_plans, worked_texts, write_sas, written_text_is_read,
+};

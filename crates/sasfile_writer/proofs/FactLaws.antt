@@ -10,8 +10,8 @@ use Rattle.std.proofs.lemmas.List.Folds.{list_all-append, list_any-append}
 use Rattle.std.proofs.lemmas.Map.Steps.{length-le_from_distinct_below}
 use Rattle.fdr.specs.declared.fact.Fact.{Fact}
 use Rattle.fdr.specs.Tasks.{Operator, IsInRange, IsAssignment, IsOperator, names_variable, are_distinct, holds, applies}
-use Rattle.sasfile.proofs.Steps.{some_is}
-use Rattle.sasfile.proofs.Assignments.{and_left, and_right, or_left_false, or_right_false, both_true, swap_false, not_false}
+use Rattle.sasfile_reader.proofs.Steps.{some_is}
+use Rattle.sasfile_reader.proofs.Assignments.{and_left, and_right, or_left_false, or_right_false, both_true, swap_false, not_false}
 use Rattle.sasfile_writer.specs.Written.{value_of}
 use Rattle.sasfile_writer.specs.TextOrder.{reordered}
 

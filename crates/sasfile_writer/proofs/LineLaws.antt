@@ -6,12 +6,12 @@ use Rattle.std.proofs.lemmas.Bool.Decides.{nat_tests}
 use Rattle.std.proofs.lemmas.List.{length-append}
 use Rattle.std.proofs.lemmas.List.Folds.{list_all-append}
 use Rattle.std.proofs.lemmas.Fmt.{decimal_by_steps}
-use Rattle.sasfile.specs.declared.number.Number.{Number}
-use Rattle.sasfile.specs.declared.number.Number.TheVariants.{Natural}
-use Rattle.sasfile.specs.Lines.{pieces, is_end_byte, before_end, trimmed, lines, filled, words, is_text_byte, is_digit, digits_after, number}
-use Rattle.sasfile.specs.SasTexts.{SpellsNumbers, SpellsCount}
-use Rattle.sasfile.proofs.Steps.{some_is}
-use Rattle.sasfile.proofs.Assignments.{and_left, and_right}
+use Rattle.sasfile_reader.specs.declared.number.Number.{Number}
+use Rattle.sasfile_reader.specs.declared.number.Number.TheVariants.{Natural}
+use Rattle.sasfile_reader.specs.Lines.{pieces, is_end_byte, before_end, trimmed, lines, filled, words, is_text_byte, is_digit, digits_after, number}
+use Rattle.sasfile_reader.specs.SasTexts.{SpellsNumbers, SpellsCount}
+use Rattle.sasfile_reader.proofs.Steps.{some_is}
+use Rattle.sasfile_reader.proofs.Assignments.{and_left, and_right}
 use Rattle.sasfile_writer.specs.Written.{text_of_lines, pair_line}
 use Rattle.sasfile_writer.specs.TextOrder.{IsName}
 

@@ -8,10 +8,10 @@ use Rattle.std.proofs.lemmas.List.Elements.{recursion_from_All, All-filter}
 use Rattle.std.proofs.lemmas.List.Filters.{length-filter_both}
 use Rattle.fdr.specs.declared.fact.Fact.{Fact}
 use Rattle.fdr.specs.Tasks.{Operator, IsInRange, IsOperator, names_variable, are_distinct}
-use Rattle.sasfile.specs.declared.number.Number.TheVariants.{Natural}
-use Rattle.sasfile.specs.declared.effects.Change.{Change}
-use Rattle.sasfile.specs.Lines.{words, digits_after, number}
-use Rattle.sasfile.specs.SasTexts.{SpellsCount, SpellsLines, SpellsChange, SpellsOperator, before_number, IsBefore, condition_before, conditions_of, after_of}
+use Rattle.sasfile_reader.specs.declared.number.Number.TheVariants.{Natural}
+use Rattle.sasfile_reader.specs.declared.effects.Change.{Change}
+use Rattle.sasfile_reader.specs.Lines.{words, digits_after, number}
+use Rattle.sasfile_reader.specs.SasTexts.{SpellsCount, SpellsLines, SpellsChange, SpellsOperator, before_number, IsBefore, condition_before, conditions_of, after_of}
 use Rattle.sasfile_writer.specs.Written.{fact_lines, value_of, effect_line, operator_lines}
 use Rattle.sasfile_writer.specs.TextOrder.{IsName, reordered}
 use Rattle.sasfile_writer.proofs.FactLaws.{at, conditions, others, value_holds, distinct_both}

@@ -7,9 +7,9 @@ use Rattle.std.proofs.lemmas.List.FromFn.{length-range_with_len}
 use Rattle.std.proofs.lemmas.List.Elements.{recursion_from_All}
 use Rattle.fdr.specs.declared.fact.Fact.{Fact}
 use Rattle.fdr.specs.Tasks.{IsInRange, IsAssignment}
-use Rattle.sasfile.specs.declared.number.Number.TheVariants.{Negative}
-use Rattle.sasfile.specs.Lines.{pieces, filled, words, digits_after, number}
-use Rattle.sasfile.specs.SasTexts.{SpellsNumbers, SpellsCount, SpellsFact, SpellsEach, SpellsParts, SpellsLines, SpellsVersion, SpellsMetric, SpellsVariable, IsText, SpellsGroup, SpellsValues, SpellsState, SpellsGoal}
+use Rattle.sasfile_reader.specs.declared.number.Number.TheVariants.{Negative}
+use Rattle.sasfile_reader.specs.Lines.{pieces, filled, words, digits_after, number}
+use Rattle.sasfile_reader.specs.SasTexts.{SpellsNumbers, SpellsCount, SpellsFact, SpellsEach, SpellsParts, SpellsLines, SpellsVersion, SpellsMetric, SpellsVariable, IsText, SpellsGroup, SpellsValues, SpellsState, SpellsGoal}
 use Rattle.sasfile_writer.specs.Written.{pair_line, fact_line, fact_lines, version_lines, metric_lines, variable_lines, group_lines}
 use Rattle.sasfile_writer.specs.TextOrder.{IsName}
 use Rattle.sasfile_writer.proofs.FactLaws.{at, few_facts}

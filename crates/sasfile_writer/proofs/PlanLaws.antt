@@ -6,7 +6,7 @@ use Rattle.std.specs.Option.{option_map_or}
 use Rattle.std.proofs.lemmas.Option.{slice_get-map}
 use Rattle.std.proofs.lemmas.List.Elements.{recursion_from_All}
 use Rattle.fdr.specs.Tasks.{Operator, FiniteDomainTask, IsTask, IsOperator, IsPlan, ranges, applies, successor, step, state_after, is_goal_state, operator_cost, cost_of, plan_cost}
-use Rattle.sasfile.proofs.Steps.{some_is}
+use Rattle.sasfile_reader.proofs.Steps.{some_is}
 use Rattle.sasfile_writer.specs.TextOrder.{reordered, in_text_order}
 use Rattle.sasfile_writer.proofs.FactLaws.{applies_same}
 

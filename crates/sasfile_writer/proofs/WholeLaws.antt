@@ -8,10 +8,10 @@ use Rattle.std.proofs.lemmas.List.FromFn.{length-enumerate_from}
 use Rattle.std.proofs.lemmas.List.Elements.{recursion_from_All}
 use Rattle.std.proofs.lemmas.List.Filters.{length-filter_both}
 use Rattle.fdr.specs.Tasks.{FiniteDomainTask, ranges, has_long_range}
-use Rattle.sasfile.specs.Lines.{pieces, filled, words, digits_after, number}
-use Rattle.sasfile.specs.SasTexts.{SpellsCount, SpellsParts, SpellsVariable, SpellsGroup, SpellsOperator, Spells, SpellsTask}
-use Rattle.sasfile.proofs.Assignments.{or_left_false, or_right_false}
-use Rattle.sasfile.proofs.Steps.{some_is}
+use Rattle.sasfile_reader.specs.Lines.{pieces, filled, words, digits_after, number}
+use Rattle.sasfile_reader.specs.SasTexts.{SpellsCount, SpellsParts, SpellsVariable, SpellsGroup, SpellsOperator, Spells, SpellsTask}
+use Rattle.sasfile_reader.proofs.Assignments.{or_left_false, or_right_false}
+use Rattle.sasfile_reader.proofs.Steps.{some_is}
 use Rattle.sasfile_writer.specs.Written.{version_lines, metric_lines, variable_lines, group_lines, groups_of, fact_lines, operator_lines, written_lines, written}
 use Rattle.sasfile_writer.specs.TextOrder.{IsName, CanBeWritten, reordered, in_text_order}
 use Rattle.sasfile_writer.proofs.LineLaws.{IsLine, plain_line, decimal_line, count_spelled, lines_again}

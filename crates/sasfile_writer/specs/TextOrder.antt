@@ -4,7 +4,7 @@ use Rattle.std.specs.List.{list_all, filter_map}
 use Rattle.std.specs.Option.{option_map}
 use Rattle.fdr.specs.declared.fact.Fact.{Fact}
 use Rattle.fdr.specs.Tasks.{FiniteDomainTask, Operator, IsTask, IsWithinLimits}
-use Rattle.sasfile.specs.Lines.{is_text_byte, trimmed}
+use Rattle.sasfile_reader.specs.Lines.{is_text_byte, trimmed}
 use Rattle.sasfile_writer.specs.Written.{prevail, value_of}
 use Rattle.cost.specs.Limits.{max_cost}
 

@@ -2,7 +2,7 @@
 
 ghost use Rattle.std.specs.Prelude.{◌≡◌, ◌↔◌, ℕ, List, [], ◌∷◌};
 ghost use Rattle.fdr.specs.Tasks.{FiniteDomainTask, IsTask, IsPlan, plan_cost};
-ghost use Rattle.sasfile.specs.SasTexts.{SpellsTask};
+ghost use Rattle.sasfile_reader.specs.SasTexts.{SpellsTask};
 ghost use Rattle.sasfile_writer.specs.Written.{written, written_lines};
 ghost use Rattle.sasfile_writer.specs.TextOrder.{in_text_order, CanBeWritten};
 ghost use Rattle.sasfile_writer.specs.Worked.{road_task, road_lines};

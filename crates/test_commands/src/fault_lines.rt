@@ -97,3 +97,21 @@ fn files_by_their_words(rt: HostRuntime) -> Result<(), Fail> {
     }
     Ok(())
 }
+
+#[test]
+fn faults_without_a_place(rt: HostRuntime) -> Result<(), Fail> {
+    let rows = [
+        (Fault::OutOfMemory, "out of memory"),
+        (Fault::GroundLimit, "F20 GroundLimit"),
+        (
+            Fault::TaskTooLarge(TaskLimit::Operators),
+            "F18 Limit operators",
+        ),
+        (Fault::TotalTooLarge, "F60 TotalTooLarge"),
+    ];
+    for (fault, line) in &rows {
+        let given = format!(in rt.alloc(); "{fault}")?;
+        assert_eq!(rt; given.as_str(), *line);
+    }
+    Ok(())
+}

@@ -2,14 +2,14 @@
 
 use optplan_command::run;
 use optplan_device::{DeviceFault, Recorded};
-use optplan_runs::texts::{ROAD_DOMAIN, ROAD_PROBLEM, ROAD_PROBLEM_WITHOUT_WAY, ROAD_SAS};
-use optplan_runs::{FaultyDevice, program_words, recorded};
 use std::alloc::{AllocError, Global};
 use std::process::Abort;
 use std::sync::Wait;
 use std::test::Fail;
 use std::thread::Threads;
 use std::time::Clock;
+use testing_runs::texts::{ROAD_DOMAIN, ROAD_PROBLEM, ROAD_PROBLEM_WITHOUT_WAY, ROAD_SAS};
+use testing_runs::{FaultyDevice, program_words, recorded};
 
 /// Returns the names of the files that were written, in order, each followed by a space.
 fn written_names(alloc: Global, events: &[Recorded]) -> Result<String, AllocError> {
@@ -75,7 +75,7 @@ const SOLVE_TO_A_LIMIT: &[&str] = &[
 const SOLVE_NO_PROBLEM: &[&str] = &["solve", "d", "d", "--simulate", "1", "--cert", "c"];
 
 /// The arguments after the program's name, the number of calls before the one that fails, the output and the report,
-/// the status, and the files that are written whole.
+/// the status, and the files in the order in which they were created and written.
 type Row = (
     &'static [&'static str],
     u64,
@@ -86,41 +86,98 @@ type Row = (
 );
 
 const FAILING_ROWS: &[Row] = &[
+    // A file is created or emptied before the search, and no search follows if that fails.
+    // A later write that fails keeps nothing else from being written.
     (SOLVE, 0, "", "optplan: F70 CannotRead domain\n", 7, ""),
     (SOLVE, 1, "", "optplan: F70 CannotRead problem\n", 7, ""),
     (SOLVE, 2, "", "optplan: F71 CannotWrite cert\n", 7, ""),
     (SOLVE, 3, "", "optplan: F71 CannotWrite plan\n", 7, "c "),
-    (SOLVE, 4, "", "optplan: F71 CannotWrite output\n", 7, "c l "),
-    (SOLVE, 5, PLAN, "", 0, "c l "),
+    (
+        SOLVE,
+        4,
+        PLAN,
+        "optplan: F71 CannotWrite cert\n",
+        7,
+        "c l l ",
+    ),
+    (
+        SOLVE,
+        5,
+        PLAN,
+        "optplan: F71 CannotWrite plan\n",
+        7,
+        "c l c ",
+    ),
+    (
+        SOLVE,
+        6,
+        "",
+        "optplan: F71 CannotWrite output\n",
+        7,
+        "c l c l ",
+    ),
+    (SOLVE, 7, PLAN, "", 0, "c l c l "),
     (SOLVE_SAS, 0, "", "optplan: F70 CannotRead sas\n", 7, ""),
     (SOLVE_SAS, 1, "", "optplan: F71 CannotWrite cert\n", 7, ""),
     (SOLVE_SAS, 2, "", "optplan: F71 CannotWrite plan\n", 7, "c "),
     (
         SOLVE_SAS,
         3,
+        PLAN,
+        "optplan: F71 CannotWrite cert\n",
+        7,
+        "c l l ",
+    ),
+    (
+        SOLVE_SAS,
+        4,
+        PLAN,
+        "optplan: F71 CannotWrite plan\n",
+        7,
+        "c l c ",
+    ),
+    (
+        SOLVE_SAS,
+        5,
         "",
         "optplan: F71 CannotWrite output\n",
+        7,
+        "c l c l ",
+    ),
+    (SOLVE_SAS, 6, PLAN, "", 0, "c l c l "),
+    (
+        SOLVE_WITHOUT_WAY,
+        2,
+        "",
+        "optplan: F71 CannotWrite cert\n",
+        7,
+        "",
+    ),
+    (
+        SOLVE_WITHOUT_WAY,
+        3,
+        "",
+        "optplan: F71 CannotWrite plan\n",
+        7,
+        "c ",
+    ),
+    (
+        SOLVE_WITHOUT_WAY,
+        4,
+        "unsolvable\n",
+        "optplan: F71 CannotWrite cert\n",
         7,
         "c l ",
     ),
-    (SOLVE_SAS, 4, PLAN, "", 0, "c l "),
     (
         SOLVE_WITHOUT_WAY,
-        2,
-        "",
-        "optplan: F71 CannotWrite cert\n",
-        7,
-        "",
-    ),
-    (
-        SOLVE_WITHOUT_WAY,
-        3,
+        5,
         "",
         "optplan: F71 CannotWrite output\n",
         7,
-        "c ",
+        "c l c ",
     ),
-    (SOLVE_WITHOUT_WAY, 4, "unsolvable\n", "", 4, "c "),
+    (SOLVE_WITHOUT_WAY, 6, "unsolvable\n", "", 4, "c l c "),
     (
         SOLVE_TO_A_LIMIT,
         2,
@@ -132,12 +189,20 @@ const FAILING_ROWS: &[Row] = &[
     (
         SOLVE_TO_A_LIMIT,
         3,
-        "",
-        "optplan: F71 CannotWrite output\n",
+        "limit 2\n",
+        "optplan: F71 CannotWrite cert\n",
         7,
         "c ",
     ),
-    (SOLVE_TO_A_LIMIT, 4, "limit 2\n", "", 5, "c "),
+    (
+        SOLVE_TO_A_LIMIT,
+        4,
+        "",
+        "optplan: F71 CannotWrite output\n",
+        7,
+        "c c ",
+    ),
+    (SOLVE_TO_A_LIMIT, 5, "limit 2\n", "", 5, "c c "),
     // If a report fails, the status is unchanged.
     (SOLVE_NO_PROBLEM, 2, "", "", 1, ""),
     (
@@ -158,13 +223,18 @@ const MEMORY_ROWS: &[Row] = &[
     (SOLVE, 2, "", OUT_OF_MEMORY, 6, ""),
     (SOLVE, 3, "", OUT_OF_MEMORY, 6, "c "),
     (SOLVE, 4, "", OUT_OF_MEMORY, 6, "c l "),
-    (SOLVE, 5, PLAN, "", 0, "c l "),
+    (SOLVE, 5, "", OUT_OF_MEMORY, 6, "c l c "),
+    (SOLVE, 6, "", OUT_OF_MEMORY, 6, "c l c l "),
+    (SOLVE, 7, PLAN, "", 0, "c l c l "),
     (SOLVE_SAS, 0, "", OUT_OF_MEMORY, 6, ""),
     (SOLVE_SAS, 1, "", OUT_OF_MEMORY, 6, ""),
     (SOLVE_SAS, 3, "", OUT_OF_MEMORY, 6, "c l "),
+    (SOLVE_SAS, 5, "", OUT_OF_MEMORY, 6, "c l c l "),
     (SOLVE_WITHOUT_WAY, 2, "", OUT_OF_MEMORY, 6, ""),
+    (SOLVE_WITHOUT_WAY, 4, "", OUT_OF_MEMORY, 6, "c l "),
     (SOLVE_TO_A_LIMIT, 2, "", OUT_OF_MEMORY, 6, ""),
     (SOLVE_TO_A_LIMIT, 3, "", OUT_OF_MEMORY, 6, "c "),
+    (SOLVE_TO_A_LIMIT, 4, "", OUT_OF_MEMORY, 6, "c c "),
 ];
 
 /// Checks the outcome of the program if one call of its device fails with this fault.

@@ -1,16 +1,19 @@
 //! The solver with lists of steps that were worked out by hand, which no command accepts.
 
-use checker::{Verdict, check_sas};
-use checker_pddl::{PlanningVerdict, check_pddl};
+use cert::write_cert;
+use cert_value::Certificate;
+use checker::{PlanningVerdict, Verdict, check_pddl, check_sas};
 use cost::Dist;
 use netcore::WorldStep;
 use netcore::WorldStep::Expand;
-use optplan_pddl::{Options, solve_steps};
-use optplan_runs::texts::{ROAD_DOMAIN, ROAD_PROBLEM, ROAD_SAS};
-use optplan_sas::{Answer, solve_sas_steps};
+use optplan_pddl::solve_steps;
+use optplan_sas::solve_sas_steps;
+use optplan_solver::{Answer, Options};
+use std::alloc::Global;
 use std::process::Abort;
 use std::test::Fail;
 use std::thread::Threads;
+use testing_runs::texts::{ROAD_DOMAIN, ROAD_PROBLEM, ROAD_SAS};
 
 /// The one worker expands a, and b is reached.
 const TOO_FEW: &[WorldStep] = &[Expand(0)];
@@ -29,12 +32,20 @@ fn answer<R: AllocGlobal + Threads + Sync>(rt: &R, steps: &[WorldStep]) -> Resul
     }
 }
 
+/// Returns the text of a certificate.
+fn text_of(alloc: Global, certificate: &Option<Certificate>) -> Result<Vec<u8>, Fail> {
+    match certificate {
+        Some(certificate) => Ok(write_cert(alloc, certificate)?),
+        None => Err(Fail::from("no certificate")),
+    }
+}
+
 /// Returns the certificate of the plan that is found for the road's texts.
 fn certificate<R: AllocGlobal + Threads + Sync>(rt: &R) -> Result<Vec<u8>, Fail> {
     let options = Options::new().with_workers(1);
     let (domain, problem) = (ROAD_DOMAIN.as_bytes(), ROAD_PROBLEM.as_bytes());
     match solve_steps(rt, domain, problem, &options, ENOUGH)? {
-        Answer::Solved(solution) => Ok(solution.cert.ok_or("no certificate")?),
+        Answer::Solved(solution) => text_of(rt.alloc(), &solution.certificate),
         Answer::Unsolvable(_) | Answer::Limit(_) => Ok(Vec::new(rt.alloc())),
     }
 }
@@ -74,8 +85,12 @@ fn certificate_of_a_planning_task(rt: HostRuntime) -> Result<(), Fail> {
 fn steps_on_a_finite_domain_task(rt: HostRuntime) -> Result<(), Fail> {
     let options = Options::new().with_workers(1);
     let sas = ROAD_SAS.as_bytes();
-    let short = solve_sas_steps(&rt, sas, &options, TOO_FEW)?;
-    assert!(rt; matches!(short, Answer::Limit(_)));
+    match solve_sas_steps(&rt, sas, &options, TOO_FEW)? {
+        // the goal is two steps away from the initial state
+        Answer::Limit(known) => assert_eq!(rt; (known.bound, known.best.is_none()), (2, true)),
+        Answer::Solved(_) => panic!(rt; "settled"),
+        Answer::Unsolvable(_) => panic!(rt; "unsolvable"),
+    }
     match solve_sas_steps(&rt, sas, &options, ENOUGH)? {
         Answer::Solved(solution) => {
             assert_eq!(rt;
@@ -83,7 +98,7 @@ fn steps_on_a_finite_domain_task(rt: HostRuntime) -> Result<(), Fail> {
                 (2, [0, 1].as_slice())
             );
             let bound = Dist::fin(2).ok_or("a distance")?;
-            let cert = solution.cert.ok_or("no certificate")?;
+            let cert = text_of(rt.alloc(), &solution.certificate)?;
             assert_eq!(rt; check_sas(&rt, sas, &cert)?, Verdict::Accepted(bound));
             Ok(())
         }
@@ -99,7 +114,7 @@ fn no_certificate_where_none_is_requested(rt: HostRuntime) -> Result<(), Fail> {
     match solve_steps(&rt, domain, problem, &options, ENOUGH)? {
         Answer::Solved(solution) => {
             assert_eq!(rt; solution.found.cost, 2);
-            assert!(rt; solution.cert.is_none());
+            assert!(rt; solution.certificate.is_none());
             Ok(())
         }
         Answer::Unsolvable(_) => panic!(rt; "unsolvable"),

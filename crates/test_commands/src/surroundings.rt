@@ -2,16 +2,16 @@
 
 use optplan_command::run;
 use optplan_device::{DeviceFault, MemoryDevice};
-use optplan_runs::texts::{
-    ROAD_CERTIFICATE, ROAD_DOMAIN, ROAD_PLANNING_CERTIFICATE, ROAD_PROBLEM, ROAD_SAS,
-};
-use optplan_runs::{FaultyDevice, Outcome, program_words, recorded, run_over};
 use std::alloc::{AllocError, Global};
 use std::process::Abort;
 use std::sync::Wait;
 use std::test::Fail;
 use std::thread::Threads;
 use std::time::Clock;
+use testing_runs::texts::{
+    ROAD_CERTIFICATE, ROAD_DOMAIN, ROAD_PLANNING_CERTIFICATE, ROAD_PROBLEM, ROAD_SAS,
+};
+use testing_runs::{FaultyDevice, Outcome, program_words, recorded, run_over};
 
 const PLAN: &str = "(go a b)(go b c)";
 
@@ -102,6 +102,10 @@ const VALIDATE: &[&str] = &["validate", "d", "p", "l"];
 
 const CHECK: &[&str] = &["check-sas", "s", "c"];
 
+const CHECK_PLANNING: &[&str] = &["check", "d", "p", "q"];
+
+const TRANSLATE: &[&str] = &["translate", "d", "p"];
+
 const OPTIMAL: &[&str] = &["optimal", "d", "p", "l", "q"];
 
 const MIGRATE: &[&str] = &["migrate-cert", "c"];
@@ -109,7 +113,12 @@ const MIGRATE: &[&str] = &["migrate-cert", "c"];
 /// A task's text as the certificate.
 const CHECK_OF_NO_CERTIFICATE: &[&str] = &["check-sas", "s", "s"];
 
+const CHECK_PLANNING_OF_NO_CERTIFICATE: &[&str] = &["check", "d", "p", "s"];
+
 const MIGRATE_NO_CERTIFICATE: &[&str] = &["migrate-cert", "s"];
+
+/// A domain's text as the problem.
+const TRANSLATE_NO_PROBLEM: &[&str] = &["translate", "d", "d"];
 
 const FAILING_ROWS: &[FaultRow] = &[
     (CHECK, "", 0, ("", "optplan: F70 CannotRead sas\n", 7)),
@@ -124,6 +133,64 @@ const FAILING_ROWS: &[FaultRow] = &[
         ("", "optplan: F50 Header cert\n", 1),
     ),
     (&["check-sas", "s", "gone"], "", 2, ("", "", 7)),
+    (
+        CHECK_PLANNING,
+        "",
+        0,
+        ("", "optplan: F70 CannotRead domain\n", 7),
+    ),
+    (
+        CHECK_PLANNING,
+        "",
+        1,
+        ("", "optplan: F70 CannotRead problem\n", 7),
+    ),
+    (
+        CHECK_PLANNING,
+        "",
+        2,
+        ("", "optplan: F70 CannotRead cert\n", 7),
+    ),
+    (
+        CHECK_PLANNING,
+        "",
+        3,
+        ("", "optplan: F71 CannotWrite output\n", 7),
+    ),
+    (CHECK_PLANNING, "", 4, ("accepted 2\n", "", 0)),
+    (CHECK_PLANNING_OF_NO_CERTIFICATE, "", 3, ("", "", 1)),
+    (
+        CHECK_PLANNING_OF_NO_CERTIFICATE,
+        "",
+        4,
+        ("", "optplan: F50 Header cert\n", 1),
+    ),
+    (
+        TRANSLATE,
+        "",
+        0,
+        ("", "optplan: F70 CannotRead domain\n", 7),
+    ),
+    (
+        TRANSLATE,
+        "",
+        1,
+        ("", "optplan: F70 CannotRead problem\n", 7),
+    ),
+    (
+        TRANSLATE,
+        "",
+        2,
+        ("", "optplan: F71 CannotWrite output\n", 7),
+    ),
+    (TRANSLATE, "", 3, (ROAD_SAS, "", 0)),
+    (TRANSLATE_NO_PROBLEM, "", 2, ("", "", 1)),
+    (
+        TRANSLATE_NO_PROBLEM,
+        "",
+        3,
+        ("", "optplan: F10 Shape problem 0\n", 1),
+    ),
     (MIGRATE, "", 0, ("", "optplan: F70 CannotRead cert\n", 7)),
     (MIGRATE, "", 1, ("", "optplan: F71 CannotWrite output\n", 7)),
     (MIGRATE, "", 2, (MIGRATED_CERTIFICATE, "", 0)),
@@ -230,6 +297,13 @@ const MEMORY_ROWS: &[FaultRow] = &[
     (CHECK, "", 2, ("", "optplan: out of memory\n", 6)),
     (CHECK, "", 3, ("accepted 2\n", "", 0)),
     (CHECK_OF_NO_CERTIFICATE, "", 2, ("", "", 1)),
+    (CHECK_PLANNING, "", 0, ("", "optplan: out of memory\n", 6)),
+    (CHECK_PLANNING, "", 2, ("", "optplan: out of memory\n", 6)),
+    (CHECK_PLANNING, "", 3, ("", "optplan: out of memory\n", 6)),
+    (CHECK_PLANNING, "", 4, ("accepted 2\n", "", 0)),
+    (TRANSLATE, "", 1, ("", "optplan: out of memory\n", 6)),
+    (TRANSLATE, "", 2, ("", "optplan: out of memory\n", 6)),
+    (TRANSLATE, "", 3, (ROAD_SAS, "", 0)),
     (MIGRATE, "", 0, ("", "optplan: out of memory\n", 6)),
     (MIGRATE, "", 1, ("", "optplan: out of memory\n", 6)),
     (MIGRATE, "", 2, (MIGRATED_CERTIFICATE, "", 0)),

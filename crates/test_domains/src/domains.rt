@@ -5,7 +5,7 @@ use abstraction_domain::{ClassRow, DomainAbstraction, DomainFault, are_increasin
 use fdr::{Fact, FdrTask, Operator};
 use std::alloc::Global;
 use std::process::Abort;
-use test_tasks::{fact, is_state_of, operator, states, task};
+use testing_tasks::{fact, is_state_of, operator, states, task};
 
 /// Returns whether these are the operators' successors of the abstract state.
 fn has_row<A: Abstraction>(a: &A, state: usize, row: &[Option<usize>]) -> bool

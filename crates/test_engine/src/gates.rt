@@ -18,8 +18,8 @@ use std::sync::atomic::{AtomicU64, Ordering};
 use std::test::Fail;
 use std::thread::Threads;
 use std::time::Clock;
-use test_meetings::Meeting;
-use test_tasks::walk;
+use testing_meetings::Meeting;
+use testing_tasks::walk;
 
 /// The spread by values, which answers for states 4 and 3 only once both are asked for concurrently.
 #[derive(Drop)]

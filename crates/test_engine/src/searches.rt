@@ -7,7 +7,7 @@ use engine::{Cause, Open, Searched, search};
 use extract::{Joined, SearchAnswer, plan_of};
 use fdr::{FdrTask, Operator};
 use netcore::World;
-use owner::{Space, Ties};
+use owner::{Owner, Space, Ties};
 use packed::{Plain, StateForm};
 use packed_spread::{ByValue, Spread, Zobrist};
 use scp::make_columns;
@@ -17,7 +17,7 @@ use std::sync::Wait;
 use std::test::Fail;
 use std::thread::Threads;
 use std::time::Clock;
-use test_tasks::{fact, operator, task, walk};
+use testing_tasks::{fact, operator, task, walk};
 
 /// From 0 to 1 and back at no cost, and from 1 to 2.
 const CYCLE: &[(u32, u32, u64)] = &[(0, 1, 0), (1, 0, 0), (1, 2, 1)];
@@ -305,4 +305,67 @@ fn a_limit_of_ten_nodes(rt: HostRuntime) -> Result<(), Fail> {
     // 63 nodes have costs below that of a cheapest plan
     let grid = grid(rt.alloc())?.ok_or("a task")?;
     stops_on(&rt, rt.alloc(), &grid, 10)
+}
+
+/// Returns how many states of an owner were reached from a state of another one.
+fn reached_from_others<S: Spread + Drop, F: StateForm + Drop>(
+    owner: &Owner<'_, S, F>,
+    worker: usize,
+) -> usize {
+    let mut count = 0usize;
+    for index in 0..owner.len() {
+        if let Some(parent) = owner.entry(index).parent
+            && parent.worker != worker
+        {
+            count = count.saturating_add(1);
+        }
+    }
+    count
+}
+
+/// Returns how many states were reached from a state of another owner.
+fn crossings<S: Spread + Drop, F: StateForm + Drop>(joined: &Joined<'_, S, F>) -> usize {
+    let owners = joined.owners();
+    let mut count = 0usize;
+    for worker in 0..owners.len() {
+        count = count.saturating_add(reached_from_others(&owners[worker], worker));
+    }
+    count
+}
+
+/// Checks that a search of the task by two workers, whose states are spread by a hash of all variables, as the program
+/// spreads them in tasks of few values, sends this many states from one to the other.
+fn crosses<'t, R: Threads + Wait + Clock + Sync + Abort>(
+    rt: &R,
+    alloc: Global,
+    task: &'t FdrTask,
+    count: usize,
+) -> Result<(), Fail> {
+    let columns = make_columns(rt, alloc, task, &[])?;
+    let spread = Zobrist::new(alloc, task)?;
+    // the type is given so that the borrow checker need not infer how long the space is borrowed
+    let space: Space<'t, Zobrist<'t>> = Space::new(
+        alloc,
+        task,
+        columns,
+        spread,
+        None,
+        Ties::Fresh,
+    )?;
+    let end: Searched<'_, Zobrist<'t>, Plain> = search(rt, alloc, &space, 2, 64, &Open)?;
+    match end {
+        Searched::Settled(joined) => {
+            assert_eq!(rt; crossings(&joined), count);
+            Ok(())
+        }
+        Searched::Stopped(_, _) => panic!(rt; "the search was stopped"),
+    }
+}
+
+#[test]
+fn few_states_have_both_owners(rt: HostRuntime) -> Result<(), Fail> {
+    // of the first five words of SplitMix64 from seed 1 only the third is even: so state 2 alone has owner 0
+    let steps = &[(0, 1, 1), (1, 2, 1), (2, 3, 1), (3, 4, 1)];
+    let task = walk(rt.alloc(), 5, 4, steps)?.ok_or("a task")?;
+    crosses(&rt, rt.alloc(), &task, 2)
 }

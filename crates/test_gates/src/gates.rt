@@ -1,6 +1,6 @@
-//! Gates that delay workers.
+//! Gates that delay workers, and one that counts their turns.
 
-use optplan_sas::{Gate, Progress, Stop};
+use optplan_solver::{EndingGate, Gate, Progress, Stop};
 use std::sync::atomic::{AtomicU64, Ordering};
 
 /// The number of further turns of the others that worker 0 waits for.
@@ -43,6 +43,10 @@ impl Gate for FirstIsLate {
     }
 }
 
+impl EndingGate for FirstIsLate {
+    ghost never_fails = { λ gate worker turn stops. stops };
+}
+
 /// The last worker begins its turn of each number before the others begin theirs, unless they have polled 1,000,000
 /// times.
 #[derive(Drop)]
@@ -78,4 +82,43 @@ impl Gate for LastIsFirst {
         }
         Ok(())
     }
+}
+
+impl EndingGate for LastIsFirst {
+    ghost never_fails = { λ gate worker turn stops. stops };
+}
+
+/// Counts the first turns of workers, and delays none.
+#[derive(Drop)]
+pub(crate) struct FirstTurns {
+    count: AtomicU64,
+}
+
+impl FirstTurns {
+    /// Creates the gate; no turn has begun.
+    pub(crate) fn new() -> FirstTurns {
+        FirstTurns {
+            count: AtomicU64::new(0),
+        }
+    }
+
+    /// Returns the number of turns that have begun and were a worker's first in a round.
+    pub(crate) fn count(&self) -> u64 {
+        self.count.load(Ordering::SeqCst)
+    }
+}
+
+impl Gate for FirstTurns {
+    ghost may_stop = { λ _ _ _ _. ⊥ };
+
+    fn turn(&self, _worker: usize, turn: u64, _progress: Progress) -> Result<(), Stop> {
+        if turn == 1 {
+            self.count.fetch_add(1, Ordering::SeqCst);
+        }
+        Ok(())
+    }
+}
+
+impl EndingGate for FirstTurns {
+    ghost never_fails = { λ gate worker turn stops. stops };
 }

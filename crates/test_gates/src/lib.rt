@@ -1,4 +1,4 @@
-//! Multi-threaded searches whose gates delay workers: the answers are those of any other schedule.
+//! Multi-threaded searches whose gates delay workers, or count turns: the answers are those of any other schedule.
 #![tactic(auto)]
 
 #[cfg(test)]

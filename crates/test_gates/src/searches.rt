@@ -1,33 +1,36 @@
 //! Worked tasks with two and four workers, under each of the gates.
 
-use crate::gates::{FirstIsLate, LastIsFirst};
+use crate::gates::{FirstIsLate, FirstTurns, LastIsFirst};
 use crate::texts::{
     DRIVE_DOMAIN, DRIVE_PROBLEM, GRIP_DOMAIN, GRIP_PROBLEM, ROAD_DOMAIN, ROAD_PROBLEM,
     ROAD_PROBLEM_WITHOUT_WAY,
 };
-use checker_pddl::{PlanningVerdict, check_pddl};
+use cert::write_cert;
+use cert_value::Certificate;
+use checker::{PlanningVerdict, check_pddl};
 use cost::Dist;
-use optplan_pddl::{Options, PlanningAnswer, solve};
-use optplan_sas::Answer;
+use optplan_pddl::{PlanningAnswer, solve};
+use optplan_solver::{Answer, Options};
 use std::process::Abort;
 use std::sync::Wait;
 use std::test::Fail;
 use std::thread::Threads;
 use std::time::Clock;
-use test_meetings::Meeting;
+use testing_meetings::Meeting;
 
 /// Checks that there is a certificate, which the checker accepts for this bound.
 fn certifies<R: Threads + Sync + Abort + AllocGlobal>(
     rt: &R,
     domain: &str,
     problem: &str,
-    cert: &Option<Vec<u8>>,
+    certificate: &Option<Certificate>,
     bound: Dist,
 ) -> Result<(), Fail> {
-    let Some(cert) = cert else {
+    let Some(certificate) = certificate else {
         panic!(rt; "no certificate");
     };
-    match check_pddl(rt, domain.as_bytes(), problem.as_bytes(), cert)? {
+    let cert = write_cert(rt.alloc(), certificate)?;
+    match check_pddl(rt, domain.as_bytes(), problem.as_bytes(), &cert)? {
         PlanningVerdict::Accepted(accepted) => assert_eq!(rt; accepted, bound),
         PlanningVerdict::Rejected(violation) => panic!(rt; "rejected {violation}"),
     }
@@ -49,7 +52,7 @@ fn is_right<R: Threads + Sync + Abort + AllocGlobal>(
             assert!(rt; solution.found.plan_text.as_str().ends_with(ending));
             assert_eq!(rt; solution.found.cost, cost);
             let bound = Dist::fin(cost).ok_or("a distance")?;
-            certifies(rt, domain, problem, &solution.cert, bound)
+            certifies(rt, domain, problem, &solution.certificate, bound)
         }
         (Answer::Unsolvable(cert), None) => certifies(rt, domain, problem, cert, Dist::inf()),
         _ => panic!(rt; "another answer"),
@@ -114,4 +117,40 @@ fn two_balls_by_workers_at_once(rt: HostRuntime) -> Result<(), Fail> {
     is_right(&rt, GRIP_DOMAIN, GRIP_PROBLEM, &answer, ending, Some(7))?;
     assert!(&rt; meeting.is_met());
     Ok(())
+}
+
+/// Checks that searches by two and by four workers have a first turn of each worker, and no other: messages are taken
+/// within the one round.
+fn have_one_round<R: Threads + Wait + Clock + Sync + Abort + AllocGlobal>(
+    rt: &R,
+    domain: &str,
+    problem: &str,
+    ending: &str,
+    cost: u64,
+) -> Result<(), Fail> {
+    for workers in [2, 4] {
+        let gate = FirstTurns::new();
+        let options = Options::new().with_workers(workers);
+        let answer = solve(rt, domain.as_bytes(), problem.as_bytes(), &options, &gate)?;
+        is_right(rt, domain, problem, &answer, ending, Some(cost))?;
+        assert_eq!(rt; gate.count(), workers as u64);
+    }
+    Ok(())
+}
+
+#[test]
+fn a_road_in_one_round(rt: HostRuntime) -> Result<(), Fail> {
+    let plan = "(go a b)\n(go b c)\n; cost = 2 (unit cost)\n";
+    have_one_round(&rt, ROAD_DOMAIN, ROAD_PROBLEM, plan, 2)
+}
+
+#[test]
+fn two_balls_in_one_round(rt: HostRuntime) -> Result<(), Fail> {
+    have_one_round(
+        &rt,
+        GRIP_DOMAIN,
+        GRIP_PROBLEM,
+        "; cost = 7 (unit cost)\n",
+        7,
+    )
 }

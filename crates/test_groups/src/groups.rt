@@ -10,7 +10,7 @@ use abstraction_groups::{
 use fdr::FdrTask;
 use std::alloc::Global;
 use std::process::Abort;
-use test_tasks::{fact, operator};
+use testing_tasks::{fact, operator};
 
 /// Returns whether the list has a transition of the operator from the source.
 fn has_transition<A: FactoredAbstraction>(
@@ -159,7 +159,7 @@ fn check_projection(rt: &impl Abort, alloc: Global, task: &FdrTask, choice: u32)
         }
         bits /= 2;
     }
-    assert!(rt; test_tasks::is_increasing(&pattern));
+    assert!(rt; testing_tasks::is_increasing(&pattern));
     match Projection::new(alloc, task, &pattern) {
         Ok(projection) => check(rt, alloc, &projection),
         Err(_) => panic!(rt; "a projection"),

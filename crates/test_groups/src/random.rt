@@ -4,7 +4,7 @@ use abstraction_domain::ClassRow;
 use fdr::{Fact, FdrTask, Operator};
 use std::alloc::Global;
 use std::process::Abort;
-use test_tasks::{fact, operator, task};
+use testing_tasks::{fact, operator, task};
 
 /// A generator of pseudo-random numbers: a linear congruential generator (Knuth's MMIX).
 #[derive(Drop)]

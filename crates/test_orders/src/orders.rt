@@ -14,7 +14,7 @@ use scp_orders::{Effort, choose_orders};
 use std::alloc::{AllocError, Global};
 use std::process::Abort;
 use std::thread::Threads;
-use test_tasks::{fact, is_state_of, task};
+use testing_tasks::{fact, is_state_of, task};
 
 /// A precondition, an effect, and a cost.
 type Step = (&'static [(usize, u32)], &'static [(usize, u32)], u64);

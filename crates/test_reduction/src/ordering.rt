@@ -9,7 +9,7 @@ use fdr_successors::{SuccessorGenerator, walk_order};
 use reduction::{Reduction, reduce};
 use std::alloc::Global;
 use std::process::Abort;
-use test_tasks::fact;
+use testing_tasks::fact;
 
 /// Checks that the successor generator of the reduced task lists the operators in the order of their numbers.
 pub(crate) fn is_in_walk_order(rt: &impl Abort, alloc: Global, reduction: &Reduction) {

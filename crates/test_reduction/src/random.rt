@@ -7,7 +7,7 @@ use fdr::{Fact, FdrTask, Operator};
 use reduction::reduce;
 use std::alloc::Global;
 use std::process::Abort;
-use test_tasks::{fact, task};
+use testing_tasks::{fact, task};
 
 /// A generator of pseudo-random numbers: a linear congruential generator (Knuth's MMIX).
 #[derive(Drop)]

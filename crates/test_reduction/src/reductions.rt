@@ -5,7 +5,7 @@ use reduction::reduce;
 use sasfile::read_sas;
 use std::alloc::Global;
 use std::process::Abort;
-use test_tasks::fact;
+use testing_tasks::fact;
 
 /// A road from 0 by 1 to 2 and a lamp, variable 1, that can be switched on and off. The goal is at `place`.
 fn road(rt: &impl Abort, alloc: Global, place: u32) -> fdr::FdrTask {

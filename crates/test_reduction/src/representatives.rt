@@ -11,7 +11,7 @@ use reduction::{Reduction, reduce};
 use reduction_certs::certificate_for_task;
 use std::alloc::Global;
 use std::process::Abort;
-use test_tasks::fact;
+use testing_tasks::fact;
 
 /// Returns the number in the reduced task of a variable of the task, or `None` if the variable is left out.
 fn number_of(reduction: &Reduction, variable: usize) -> Option<usize> {

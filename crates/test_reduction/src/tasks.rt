@@ -7,7 +7,7 @@ use fdr::{Fact, FdrTask, Operator};
 use reduction::{Reduction, reduce};
 use std::alloc::Global;
 use std::process::Abort;
-use test_tasks::task;
+use testing_tasks::task;
 
 /// Adds an operator.
 pub(crate) fn add(

@@ -7,7 +7,7 @@ use std::alloc::{AllocError, Global};
 use std::process::Abort;
 use std::test::Fail;
 use std::thread::Threads;
-use test_tasks::{fact, operator, task, walk};
+use testing_tasks::{fact, operator, task, walk};
 
 /// Checks what the pool of the first stage finds, and the greatest cost of a cheapest abstract plan from the initial
 /// state over its abstractions.

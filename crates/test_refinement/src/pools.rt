@@ -12,7 +12,7 @@ use std::alloc::{AllocError, Global};
 use std::process::Abort;
 use std::test::Fail;
 use std::thread::Threads;
-use test_tasks::{fact, operator, task};
+use testing_tasks::{fact, operator, task};
 
 /// The limits of a small stage.
 const SMALL: StageLimits = StageLimits {

@@ -9,7 +9,7 @@ use rand_xoshiro::SplitMix64;
 use std::alloc::{AllocError, Global};
 use std::process::Abort;
 use std::test::Fail;
-use test_tasks::{fact, operator, task};
+use testing_tasks::{fact, operator, task};
 
 /// A random number below `bound`, and 0 if there is none.
 fn below(words: &mut SplitMix64, bound: usize) -> usize {

@@ -10,7 +10,7 @@ use rand_xoshiro::SplitMix64;
 use std::alloc::{AllocError, Global};
 use std::process::Abort;
 use std::test::Fail;
-use test_tasks::{fact, operator, task};
+use testing_tasks::{fact, operator, task};
 
 /// The kinds of splits.
 const KINDS: [Kind; 2] = [Kind::Pattern, Kind::Domain];

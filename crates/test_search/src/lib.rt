@@ -1,6 +1,9 @@
-//! Tests of the machine of owners over small spaces, with lists of steps worked out by hand.
+//! Tests of the machine of owners over small spaces: with lists of steps worked out by hand, and with random steps,
+//! among them steps that would change nothing.
 #![tactic(auto)]
 
+#[cfg(test)]
+mod draws;
 #[cfg(test)]
 mod listed_states;
 #[cfg(test)]

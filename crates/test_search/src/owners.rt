@@ -12,7 +12,7 @@ use std::alloc::{AllocError, Global};
 use std::process::Abort;
 use std::test::Fail;
 use std::thread::Threads;
-use test_tasks::walk;
+use testing_tasks::walk;
 
 /// From 0 to 1 and to 2, from 1 to 2, and from 2 and 4 to 3, which is the goal.
 const STEPS: &[(u32, u32, u64)] = &[(0, 1, 1), (0, 2, 5), (1, 2, 1), (2, 3, 1), (4, 3, 1)];

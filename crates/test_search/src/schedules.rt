@@ -1,8 +1,7 @@
 //! Two owners of the values of one variable, the even ones and the odd ones, without columns.
 
-use cert::cert_of;
+use cert::{cert_of, write_cert};
 use cert_value::CertificateKind;
-use cert_writer::write_cert;
 use extract::plan_of;
 use fdr::FdrTask;
 use netcore::WorldStep::{Deliver, Expand, Look, Offer, Rest, Send};

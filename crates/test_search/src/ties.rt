@@ -10,7 +10,7 @@ use std::alloc::Global;
 use std::process::Abort;
 use std::test::Fail;
 use std::thread::Threads;
-use test_tasks::walk;
+use testing_tasks::walk;
 
 /// From 0 to 1 and to 2 at cost 1, from 2 to 3 at no cost, and from 3 to 4, which is the goal.
 const SAME_COSTS: &[(u32, u32, u64)] = &[(0, 1, 1), (0, 2, 1), (2, 3, 0), (3, 4, 1)];

@@ -10,7 +10,7 @@ use std::alloc::{AllocError, Global};
 use std::process::Abort;
 use std::test::Fail;
 use std::thread::Threads;
-use test_tasks::walk;
+use testing_tasks::walk;
 
 /// From 0 to 1 and back at no cost, and from 1 to 2, which is the goal.
 const STEPS: &[(u32, u32, u64)] = &[(0, 1, 0), (1, 0, 0), (1, 2, 1)];
@@ -60,14 +60,17 @@ fn has_two_units<S: Spread + Drop, F: StateForm + Drop>(
     assert_eq!(rt; (world.count(), answer), (2, None));
 }
 
-/// Lets the second owner rest, and checks that one step is left.
+/// Lets the second owner rest, and checks that one step is left, and that there is no answer yet.
 fn second_rests<S: Spread + Drop, F: StateForm + Drop>(
     rt: &impl Abort,
+    alloc: Global,
     world: &mut World<'_, S, F>,
 ) {
     assert!(rt; world.would_change(WorldStep::Rest(1)));
     assert_eq!(rt; world.step(WorldStep::Rest(1)), Ok(true));
     assert_eq!(rt; (world.count(), world.possible_count()), (1, 1));
+    let answer = world.answer(alloc).expect(rt, "memory");
+    assert_eq!(rt; answer, None);
 }
 
 /// Checks which steps would change nothing at the start.
@@ -93,7 +96,7 @@ fn first_steps<'a, S: Spread + Drop>(
     has_two_steps(rt, &world);
     idles_at_first(rt, &mut world);
     has_two_units(rt, alloc, &world);
-    second_rests(rt, &mut world);
+    second_rests(rt, alloc, &mut world);
     Ok(())
 }
 

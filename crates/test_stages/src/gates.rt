@@ -1,6 +1,6 @@
 //! Gates that count stages, refuse them or end them.
 
-use optplan_sas::{Gate, Progress, Stop};
+use optplan_solver::{EndingGate, Gate, Progress, Stop};
 use std::sync::atomic::{AtomicU64, Ordering};
 use std::time::Duration;
 
@@ -37,6 +37,10 @@ impl Gate for Counting {
         self.asked.fetch_add(1, Ordering::SeqCst);
         self.allows
     }
+}
+
+impl EndingGate for Counting {
+    ghost never_fails = { λ gate worker turn stops. stops };
 }
 
 /// Ends the search as at a limit when worker 0 begins this turn of a round, after this number of stages.
@@ -78,6 +82,12 @@ impl Gate for StopsLater {
     }
 }
 
+impl EndingGate for StopsLater {
+    ghost use Rattle.std.proofs.Common.{rules};
+
+    ghost never_fails = { λ gate worker turn stops. Prim.search rules };
+}
+
 /// Ends each stage before turn 3 of worker 0.
 #[derive(Drop)]
 pub(crate) struct EndsStages {}
@@ -95,4 +105,10 @@ impl Gate for EndsStages {
             Ok(())
         }
     }
+}
+
+impl EndingGate for EndsStages {
+    ghost use Rattle.std.proofs.Common.{rules};
+
+    ghost never_fails = { λ gate worker turn stops. Prim.search rules };
 }

@@ -5,10 +5,12 @@ use crate::texts::{
     DRIVE_DOMAIN, DRIVE_PROBLEM, GRIP_DOMAIN, GRIP_PROBLEM, ROAD_DOMAIN, ROAD_PROBLEM,
     ROAD_PROBLEM_WITHOUT_WAY,
 };
-use checker_pddl::{PlanningVerdict, check_pddl};
+use cert::write_cert;
+use cert_value::Certificate;
+use checker::{PlanningVerdict, check_pddl};
 use cost::Dist;
-use optplan_pddl::{Gate, Open, Options, PlanningAnswer, solve};
-use optplan_sas::{Answer, STAGES, Tables};
+use optplan_pddl::{PlanningAnswer, solve};
+use optplan_solver::{Answer, EndingGate, Open, Options, STAGES, Tables};
 use std::process::Abort;
 use std::sync::Wait;
 use std::test::Fail;
@@ -20,13 +22,14 @@ fn certifies<R: Threads + Sync + Abort + AllocGlobal>(
     rt: &R,
     domain: &str,
     problem: &str,
-    cert: &Option<Vec<u8>>,
+    certificate: &Option<Certificate>,
     bound: Dist,
 ) -> Result<(), Fail> {
-    let Some(cert) = cert else {
+    let Some(certificate) = certificate else {
         panic!(rt; "no certificate");
     };
-    match check_pddl(rt, domain.as_bytes(), problem.as_bytes(), cert)? {
+    let cert = write_cert(rt.alloc(), certificate)?;
+    match check_pddl(rt, domain.as_bytes(), problem.as_bytes(), &cert)? {
         PlanningVerdict::Accepted(accepted) => assert_eq!(rt; accepted, bound),
         PlanningVerdict::Rejected(violation) => panic!(rt; "rejected {violation}"),
     }
@@ -45,7 +48,7 @@ fn is_right<R: Threads + Sync + Abort + AllocGlobal>(
         (Answer::Solved(solution), Some(cost)) => {
             assert_eq!(rt; solution.found.cost, cost);
             let bound = Dist::fin(cost).ok_or("a distance")?;
-            certifies(rt, domain, problem, &solution.cert, bound)
+            certifies(rt, domain, problem, &solution.certificate, bound)
         }
         (Answer::Unsolvable(cert), None) => certifies(rt, domain, problem, cert, Dist::inf()),
         _ => panic!(rt; "another answer"),
@@ -127,7 +130,7 @@ fn a_refused_stage_does_not_begin(rt: HostRuntime) -> Result<(), Fail> {
 }
 
 /// Returns the bound and the cost of the best plan of a search that was stopped, whose certificate the checker accepts.
-fn stopped<R: Threads + Wait + Clock + Sync + Abort + AllocGlobal, G: Gate + Sync>(
+fn stopped<R: Threads + Wait + Clock + Sync + Abort + AllocGlobal, G: EndingGate + Sync>(
     rt: &R,
     options: &Options,
     gate: &G,
@@ -136,7 +139,7 @@ fn stopped<R: Threads + Wait + Clock + Sync + Abort + AllocGlobal, G: Gate + Syn
     match solve(rt, domain, problem, options, gate)? {
         Answer::Limit(known) => {
             let bound = Dist::fin(known.bound).ok_or("a distance")?;
-            certifies(rt, GRIP_DOMAIN, GRIP_PROBLEM, &known.cert, bound)?;
+            certifies(rt, GRIP_DOMAIN, GRIP_PROBLEM, &known.certificate, bound)?;
             match &known.best {
                 Some(best) => Ok((known.bound, Some(best.cost))),
                 None => Ok((known.bound, None)),

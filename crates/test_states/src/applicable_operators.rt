@@ -6,7 +6,7 @@ use fdr::{Fact, FdrTask, Operator};
 use fdr_successors::SuccessorGenerator;
 use std::alloc::Global;
 use std::process::Abort;
-use test_tasks::{fact, operator, states, task};
+use testing_tasks::{fact, operator, states, task};
 
 /// Checks that these operators are found, whatever the vector held.
 fn finds(

@@ -11,7 +11,7 @@ use packed::{Bits, Layout, Plain, StateForm};
 use std::alloc::{AllocError, Global};
 use std::process::Abort;
 use std::test::Fail;
-use test_tasks::states;
+use testing_tasks::states;
 
 fn rank(cost: u64, steps: u64) -> Rank {
     Rank { cost, steps }
@@ -94,6 +94,24 @@ fn was_expanded<F: StateForm + Drop>(
     assert_eq!(rt; table.was_expanded(index), expected);
 }
 
+/// Checks that the stored form of the state at an index has these two values.
+fn has_form_of<F: StateForm + Drop>(
+    rt: &impl Abort,
+    table: &ClosedTable<F>,
+    layout: &Layout,
+    index: usize,
+    values: (u32, u32),
+)
+    requires { F.Fits layout.now }
+{
+    let Some(form) = table.form(index) else {
+        panic!(rt; "no state");
+    };
+    assert!(rt; form.holds_state(layout), "a state");
+    assert!(rt; layout.variable_count() == 2, "two variables");
+    assert_eq!(rt; (form.value(layout, 0), form.value(layout, 1)), values);
+}
+
 /// Checks whether a state is a duplicate at a rank.
 fn is_known<F: StateForm + Drop>(
     rt: &impl Abort,
@@ -167,6 +185,9 @@ fn keeps_the_least_rank_in<F: StateForm + Drop, R: Abort>(
     was_expanded(rt, &table, 0, true);
     was_expanded(rt, &table, 1, false);
     was_expanded(rt, &table, 2, false);
+    has_form_of(rt, &table, layout, 0, (1, 2));
+    has_form_of(rt, &table, layout, 1, (1, 0));
+    assert!(rt; table.form(2).is_none());
     is_known(rt, alloc, &table, layout, &state, rank(5, 2), true);
     is_known(rt, alloc, &table, layout, &state, rank(5, 1), false);
     is_known(rt, alloc, &table, layout, &[0, 0], rank(9, 9), false);

@@ -7,7 +7,7 @@ use packed::{Bits, Layout, Plain, StateForm, TaskMasks};
 use std::alloc::{AllocError, Global};
 use std::process::Abort;
 use std::test::Fail;
-use test_tasks::{fact, operator, states, task};
+use testing_tasks::{fact, operator, states, task};
 
 /// Checks the form of one state, which is then made that of another.
 fn keeps_states<F: StateForm + Drop>(

@@ -10,7 +10,7 @@ use packed::{Layout, Plain, StateForm};
 use std::alloc::{AllocError, Global};
 use std::process::Abort;
 use std::test::Fail;
-use test_tasks::states;
+use testing_tasks::states;
 
 /// Returns the layout of the one state of a variable with one value.
 fn layout_of_one(rt: &impl Abort, alloc: Global) -> Layout {

@@ -7,7 +7,7 @@ use packed_spread::{ByValue, Spread, Zobrist};
 use std::alloc::{AllocError, Global};
 use std::process::Abort;
 use std::test::Fail;
-use test_tasks::{fact, operator, states, task};
+use testing_tasks::{fact, operator, states, task};
 
 /// Returns the owner of the state among seven.
 fn owner_of_seven<S: Spread>(spread: &S, state: &[u32]) -> usize

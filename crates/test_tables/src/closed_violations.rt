@@ -9,7 +9,7 @@ use fdr::FdrTask;
 use std::alloc::{AllocError, Global};
 use std::process::Abort;
 use std::thread::Threads;
-use test_tasks::walk;
+use testing_tasks::walk;
 
 const HUGE: u64 = 18_446_744_073_709_551_615;
 

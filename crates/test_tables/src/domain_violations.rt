@@ -7,7 +7,7 @@ use std::alloc::Global;
 use std::process::Abort;
 use std::test::Fail;
 use std::thread::Threads;
-use test_tasks::{fact, operator, task, walk};
+use testing_tasks::{fact, operator, task, walk};
 
 /// The rows, the values, and the violation of the table with these and shares of 1, if there is one.
 type Row = (

@@ -13,7 +13,7 @@ use std::alloc::Global;
 use std::process::Abort;
 use std::test::Fail;
 use std::thread::Threads;
-use test_tasks::{fact, is_state_of, task, walk};
+use testing_tasks::{fact, is_state_of, task, walk};
 
 pub(crate) const INF: u64 = u64::MAX;
 

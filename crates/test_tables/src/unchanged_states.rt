@@ -7,7 +7,7 @@ use fdr::FdrTask;
 use std::alloc::Global;
 use std::process::Abort;
 use std::thread::Threads;
-use test_tasks::{fact, operator, task};
+use testing_tasks::{fact, operator, task};
 
 /// Returns a task of two variables with the values 0 and 1, initially 0; the goal is 1 of the first. Operators 0 and 3
 /// have their conditions as effects, so they change no state; so does operator 1 but for its second effect. Operator 2

@@ -2,8 +2,6 @@
 #![tactic(auto)]
 
 #[cfg(test)]
-mod plan_steps;
-#[cfg(test)]
 mod plans;
 #[cfg(test)]
 mod sas_texts;

@@ -1,8 +1,8 @@
 //! Texts that are read, and their first faults, worked out by hand.
 
 use fdr::{Fact, FdrTask, Operator, TaskLimit};
-use sasfile::SasFault::*;
 use sasfile::{SasFault, read_sas};
+use sasfile_reader::SasFault::*;
 use std::alloc::Global;
 use std::process::Abort;
 

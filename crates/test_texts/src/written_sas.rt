@@ -3,8 +3,7 @@
 ghost use Rattle.std.specs.Prelude.{◌<◌, All};
 
 use fdr::{FdrTask, Operator};
-use sasfile::read_sas;
-use sasfile_writer::{sas_plan_text, write_sas};
+use sasfile::{read_sas, sas_plan_text, write_sas};
 use std::alloc::Global;
 use std::process::Abort;
 

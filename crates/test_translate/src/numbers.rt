@@ -4,8 +4,7 @@ ghost use Rattle.std.specs.Prelude.{IsTrue};
 ghost use Rattle.pddl_task.specs.Planning.{has_small_costs};
 
 use ground::ground;
-use mutex::ActionIndex;
-use mutex_proposals::groups;
+use mutex::{ActionIndex, groups};
 use pddl::read_task;
 use pddl_task::Task;
 use std::alloc::Global;

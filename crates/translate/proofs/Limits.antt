@@ -12,7 +12,7 @@ use Rattle.pddl_task.specs.Atoms.{Atom, contains}
 use Rattle.pddl_task.specs.Planning.{PlanningTask, Vocabulary, Action}
 use Rattle.ground_theory.specs.Grounding.{actions_over}
 use Rattle.ground.specs.Rounds.{max_atoms}
-use Rattle.mutex.specs.Places.{atoms_at}
+use Rattle.mutex_index.specs.Places.{atoms_at}
 use Rattle.translate_theory.specs.Translations.{Variable, translation, value_names_of, range_of, carried, has_operator}
 use Rattle.translate_theory.proofs.Ranges.{ranges_are}
 use Rattle.translate_theory.specs.Variables.{PlacedVariable, IsPlaced, variable_at, variables_at}

@@ -1,14 +1,23 @@
 -- What a translation promises of plans, and what is wrong first where it is refused.
-use Rattle.std.proofs.Common.{◌≡◌, ℕ, List, sym, subst}
-use Rattle.std.specs.Prelude.{◌↔◌, ◌≤◌, All, Some, slice_get, length, Result, Ok, Err, IfOk, IfErr}
+use Rattle.std.proofs.Common.{◌≡◌, ℕ, List, refl, sym, subst}
+use Rattle.std.specs.Prelude.{◌↔◌, ◌≤◌, All, Some, slice_get, length, Result, Ok, Err, IfOk}
 use Rattle.std.specs.List.{AllZip}
-use Rattle.fdr.specs.Tasks.{FiniteDomainTask, IsWithinLimits, IsPlan, plan_cost}
+use Rattle.std.specs.List.Sorted.{IsNonDecreasingBy}
+use Rattle.fdr.specs.Tasks.{FiniteDomainTask, IsWithinLimits, IsPastLimit, IsPlan, plan_cost}
+use Rattle.fdr.specs.declared.task.TaskLimit.{TaskLimit}
 use Rattle.pddl_task.specs.Atoms.{Atom, contains}
 use Rattle.pddl_task.specs.Planning.{PlanningTask, IsPlanningTask, Action}
 use Rattle.pddl_task.specs.Plans.{IsValidPlan, total_cost}
-use Rattle.ground_theory.specs.Grounding.{AreListedAtoms, AreListedActions, actions_over}
-use Rattle.ground_bindings.specs.Search.{max_actions}
-use Rattle.ground.specs.Rounds.{max_atoms}
+use Rattle.ground_theory.specs.Grounding.{AreListedAtoms, AreListedActions, IsLeastClosedSet, actions_over}
+use Rattle.ground_atoms.specs.Order.{IsAscending}
+use Rattle.mutex_index.specs.Places.{Indexed}
+use Rattle.mutex.specs.Candidates.{proposed_groups}
+use Rattle.translate_choice.specs.Choices.{least_place}
+use Rattle.translate_choice.specs.Greedy.{AreChosen}
+use Rattle.ground.specs.Search.{max_actions}
+use Rattle.ground.specs.Rounds.{max_atoms, IsPastLimits}
+use Rattle.ground.specs.declared.fault.GroundFault.{GroundFault}
+use Rattle.ground.specs.declared.fault.GroundFault.TheVariants as ground_fault
 use Rattle.ground_theory.proofs.Binding.{over_listed}
 use Rattle.translate_theory.specs.Translations.{AreVariables, translation, carried}
 use Rattle.translate_theory.proofs.Bounding.{same_plans, bound_forth, bound_back, none_forth, none_back}
@@ -18,9 +27,9 @@ use Rattle.translate_assembly.specs.Carried.{AreCarriedAt}
 use Rattle.translate_assembly.proofs.OperatorLists.{listed_at}
 use Rattle.translate_vars.specs.Parts.{AreFit}
 use Rattle.translate_vars.specs.Faults.{IsFirstFault}
-use Rattle.translate_vars.specs.declared.fault.TranslateFault.{TranslateFault}
-use Rattle.translate_vars.specs.declared.fault.TranslateFault.TheVariants as fault
-use Rattle.translate.specs.Translated.{TranslatedTask, IsTranslation, HasSamePlans, AreChosenParts, IsTooLarge, IsUntranslated, actions_of}
+use Rattle.translate_assembly.specs.declared.assembly.AssemblyFault.{AssemblyFault}
+use Rattle.translate_assembly.specs.declared.assembly.AssemblyFault.TheVariants as assembly
+use Rattle.translate.specs.Translated.{TranslatedTask, IsTranslation, HasSamePlans, AreChosenParts, IsTooLarge, IsUntranslated, actions_of, parts_fault_of, fault_of_ground, fault_of_assembly, indexed}
 use Rattle.translate.proofs.Limits.{fits, within_from}
 
 pub listed_actions : (task : PlanningTask) (atoms : List Atom) (actions : List Action) → actions ≡ actions_over task (contains atoms) → AreListedActions task atoms actions
@@ -86,37 +95,49 @@ module _ (task : PlanningTask) (t : TranslatedTask) (well : IsPlanningTask task)
         );
       })
 
+-- a task that is not grounded has no translation
+pub ungrounded_is_untranslated : (task : PlanningTask) (e : GroundFault) → (e ≡ ground_fault.GroundLimit → IsPastLimits task) → IsUntranslated task (fault_of_ground e)
+ungrounded_is_untranslated task ground_fault.OutOfMemory h = tt
+ungrounded_is_untranslated task ground_fault.GroundLimit h = h refl
+
+-- the fault of an assembly tells which limit is exceeded
+pub assembly_is_too_large : (task : PlanningTask) (atoms : List Atom) (variables : List PlacedVariable) (ground_actions : List Action) (e : AssemblyFault)
+    → ground_actions ≡ actions_over task (contains atoms)
+    → ((l : TaskLimit) → e ≡ assembly.Limit l → IsPastLimit (translation task (variables_at atoms variables) ground_actions) l) → IsTooLarge task atoms variables e
+assembly_is_too_large task atoms variables ground_actions assembly.OutOfMemory same h = tt
+assembly_is_too_large task atoms variables ground_actions (assembly.Limit l) same h =
+    subst (λ (listed_ : List Action). IsPastLimit (translation task (variables_at atoms variables) listed_) l) same (h l refl)
+
 -- what is fit is refused for memory alone
-pub large_is_first : (task : PlanningTask) (atoms : List Atom) (variables : List PlacedVariable) (e : TranslateFault) → All (IsPlaced (length atoms)) variables
-    → AreFit task atoms variables → IsTooLarge task atoms variables e → IsFirstFault task atoms variables e
-large_is_first task atoms variables fault.OutOfMemory placed fit h = tt
-large_is_first task atoms variables (fault.Limit l) placed fit h = absurd (fits task atoms variables l placed fit h)
-large_is_first task atoms variables fault.GroundLimit placed fit h = absurd h
-large_is_first task atoms variables (fault.BadAtom k) placed fit h = absurd h
-large_is_first task atoms variables (fault.Missing p) placed fit h = absurd h
-large_is_first task atoms variables (fault.NotClosed p) placed fit h = absurd h
-large_is_first task atoms variables (fault.Uncovered k) placed fit h = absurd h
-large_is_first task atoms variables (fault.NotGroup k) placed fit h = absurd h
-large_is_first task atoms variables (fault.NotFull k) placed fit h = absurd h
-large_is_first task atoms variables (fault.Misplaced k) placed fit h = absurd h
+pub large_is_first : (task : PlanningTask) (atoms : List Atom) (variables : List PlacedVariable) (e : AssemblyFault) → All (IsPlaced (length atoms)) variables
+    → AreFit task atoms variables → IsTooLarge task atoms variables e → IsFirstFault task atoms variables (parts_fault_of e)
+large_is_first task atoms variables assembly.OutOfMemory placed fit h = tt
+large_is_first task atoms variables (assembly.Limit l) placed fit h = absurd (fits task atoms variables l placed fit h)
 
-pub large_is_untranslated : (task : PlanningTask) (atoms : List Atom) (variables : List PlacedVariable) (e : TranslateFault) → AreChosenParts task atoms variables
-    → IsTooLarge task atoms variables e → IsUntranslated task e
-large_is_untranslated task atoms variables fault.OutOfMemory parts h = tt
-large_is_untranslated task atoms variables (fault.Limit l) parts h = (atoms, variables, parts, h)
-large_is_untranslated task atoms variables fault.GroundLimit parts h = absurd h
-large_is_untranslated task atoms variables (fault.BadAtom k) parts h = absurd h
-large_is_untranslated task atoms variables (fault.Missing p) parts h = absurd h
-large_is_untranslated task atoms variables (fault.NotClosed p) parts h = absurd h
-large_is_untranslated task atoms variables (fault.Uncovered k) parts h = absurd h
-large_is_untranslated task atoms variables (fault.NotGroup k) parts h = absurd h
-large_is_untranslated task atoms variables (fault.NotFull k) parts h = absurd h
-large_is_untranslated task atoms variables (fault.Misplaced k) parts h = absurd h
+pub large_is_untranslated : (task : PlanningTask) (atoms : List Atom) (variables : List PlacedVariable) (e : AssemblyFault) → AreChosenParts task atoms variables
+    → IsTooLarge task atoms variables e → IsUntranslated task (fault_of_assembly e)
+large_is_untranslated task atoms variables assembly.OutOfMemory parts h = tt
+large_is_untranslated task atoms variables (assembly.Limit l) parts h = (atoms, variables, parts, h)
 
-pub if_ok_map : {X E : Type 0} (P Q : X → Type 0) (r : Result X E) → ((x : X) → P x → Q x) → IfOk r P → IfOk r Q
-if_ok_map P Q (Ok x) f h = f x h
-if_ok_map P Q (Err e) f h = tt
+-- the variables that are chosen from the proposed groups, over the index of the atoms and their actions
+pub chosen_parts_are : (task : PlanningTask) (atoms : List Atom) (ground_actions : List Action) (index : Indexed) (groups : List (List ℕ)) (variables : List PlacedVariable)
+    → IsLeastClosedSet task (contains atoms) → IsAscending atoms → ground_actions ≡ actions_over task (contains atoms)
+    → index ≡ record { task = task; atoms = atoms; actions = ground_actions } → groups ≡ proposed_groups index → AreChosen index groups variables
+    → AreVariables index.task index.atoms index.actions (variables_at index.atoms variables) → IsNonDecreasingBy least_place variables
+    → AreChosenParts task atoms variables
+chosen_parts_are task atoms ground_actions index groups variables least ascending over is proposed chosen fit ordered =
+    let same : index ≡ indexed task atoms =
+    subst (λ (listed_ : List Action). index ≡ record { task = task; atoms = atoms; actions = listed_ }) over is in
+    record {
+      least = least;
+      ascending = ascending;
+      chosen =
+          subst (λ (i : Indexed). AreChosen i (proposed_groups i) variables) same
+          (subst (λ (gs : List (List ℕ)). AreChosen index gs variables) proposed chosen);
+      fit = subst (λ (i : Indexed). AreVariables i.task i.atoms i.actions (variables_at i.atoms variables)) same fit;
+      ordered = ordered;
+    }
 
-pub if_err_map : {X E : Type 0} (P Q : E → Type 0) (r : Result X E) → ((e : E) → P e → Q e) → IfErr r P → IfErr r Q
-if_err_map P Q (Ok x) f h = tt
-if_err_map P Q (Err e) f h = f e h
+pub if_ok_by_three : {X E : Type 0} (P Q R S : X → Type 0) (r : Result X E) → ((x : X) → P x → Q x → R x → S x) → IfOk r P → IfOk r Q → IfOk r R → IfOk r S
+if_ok_by_three P Q R S (Ok x) f p q r = f x p q r
+if_ok_by_three P Q R S (Err e) f p q r = tt

@@ -12,8 +12,8 @@ use Rattle.pddl_task.specs.Plans.{IsValidPlan, total_cost, HasNoValidPlan}
 use Rattle.ground_theory.specs.Grounding.{IsLeastClosedSet, actions_over}
 use Rattle.ground_atoms.specs.Order.{IsAscending}
 use Rattle.ground.specs.Rounds.{IsPastLimits}
-use Rattle.mutex.specs.Places.{Indexed}
-use Rattle.mutex_proposals.specs.Proposals.{IsProposal}
+use Rattle.mutex_index.specs.Places.{Indexed}
+use Rattle.mutex.specs.Candidates.{proposed_groups}
 use Rattle.translate_choice.specs.Choices.{least_place}
 use Rattle.translate_choice.specs.Greedy.{AreChosen}
 use Rattle.translate_theory.specs.Bounds.{ValidPlansCostAtLeast}
@@ -22,7 +22,13 @@ use Rattle.translate_theory.specs.Variables.{PlacedVariable, IsPlaced, variables
 use Rattle.translate_assembly.specs.Carried.{AreCarriedAt}
 use Rattle.translate_vars.specs.Parts.{AreFit}
 use Rattle.translate_vars.specs.declared.fault.TranslateFault.{TranslateFault}
-use Rattle.translate_vars.specs.declared.fault.TranslateFault.TheVariants as fault
+use Rattle.translate_vars.specs.declared.fault.TranslateFault.TheVariants as parts
+use Rattle.translate_assembly.specs.declared.assembly.AssemblyFault.{AssemblyFault}
+use Rattle.translate_assembly.specs.declared.assembly.AssemblyFault.TheVariants as assembly
+use Rattle.ground.specs.declared.fault.GroundFault.{GroundFault}
+use Rattle.ground.specs.declared.fault.GroundFault.TheVariants as ground
+use Rattle.translate.specs.declared.fault.SizeFault.{SizeFault}
+use Rattle.translate.specs.declared.fault.SizeFault.TheVariants as size
 
 -- the properties of every task that texts spell: costs are small, and the initial atoms, the atoms of the goal and
 -- those that actions add are atoms of the task
@@ -72,44 +78,41 @@ pub record HasSamePlans (task : PlanningTask) (t : TranslatedTask) : Type 0 wher
   pub none : HasNoPlan t.task ↔ HasNoValidPlan task
 
 -- the translation over these atoms and variables exceeds a limit of finite-domain tasks
-abbrev pub IsTooLarge : PlanningTask → List Atom → List PlacedVariable → TranslateFault → Type 0
-IsTooLarge task atoms variables fault.OutOfMemory = ⊤
-IsTooLarge task atoms variables (fault.Limit l) = IsPastLimit (translation task (variables_at atoms variables) (actions_over task (contains atoms))) l
-IsTooLarge task atoms variables fault.GroundLimit = ⊥
-IsTooLarge task atoms variables (fault.BadAtom k) = ⊥
-IsTooLarge task atoms variables (fault.Missing p) = ⊥
-IsTooLarge task atoms variables (fault.NotClosed p) = ⊥
-IsTooLarge task atoms variables (fault.Uncovered k) = ⊥
-IsTooLarge task atoms variables (fault.NotGroup k) = ⊥
-IsTooLarge task atoms variables (fault.NotFull k) = ⊥
-IsTooLarge task atoms variables (fault.Misplaced k) = ⊥
+abbrev pub IsTooLarge : PlanningTask → List Atom → List PlacedVariable → AssemblyFault → Type 0
+IsTooLarge task atoms variables assembly.OutOfMemory = ⊤
+IsTooLarge task atoms variables (assembly.Limit l) = IsPastLimit (translation task (variables_at atoms variables) (actions_over task (contains atoms))) l
 
 -- a task, listed atoms, and all actions over them, in order
 abbrev pub indexed : PlanningTask → List Atom → Indexed
 indexed task atoms = record { task = task; atoms = atoms; actions = actions_over task (contains atoms) }
 
--- the atoms are the least closed set, in order, and the variables are those that are chosen over them from some groups
--- that may be proposed
+-- the atoms are the least closed set, in order, and the variables are those that are chosen over them from the proposed
+-- groups
 pub record AreChosenParts (task : PlanningTask) (atoms : List Atom) (variables : List PlacedVariable) : Type 0 where
   pub least : IsLeastClosedSet task (contains atoms)
   pub ascending : IsAscending atoms
-  pub groups : List (List ℕ)
-  pub proposed : All (IsProposal (indexed task atoms)) groups
-  pub chosen : AreChosen (indexed task atoms) groups variables
+  pub chosen : AreChosen (indexed task atoms) (proposed_groups (indexed task atoms)) variables
   pub fit : AreVariables task atoms (actions_over task (contains atoms)) (variables_at atoms variables)
   pub ordered : IsNonDecreasingBy least_place variables
 
 -- there are too many atoms or actions; or the finite-domain task over the chosen variables exceeds a limit
-abbrev pub IsUntranslated : PlanningTask → TranslateFault → Type 0
-IsUntranslated task fault.OutOfMemory = ⊤
-IsUntranslated task fault.GroundLimit = IsPastLimits task
-IsUntranslated task (fault.Limit l) =
+abbrev pub IsUntranslated : PlanningTask → SizeFault → Type 0
+IsUntranslated task size.OutOfMemory = ⊤
+IsUntranslated task size.GroundLimit = IsPastLimits task
+IsUntranslated task (size.Limit l) =
     (atoms : List Atom) × (variables : List PlacedVariable) × AreChosenParts task atoms variables
     × IsPastLimit (translation task (variables_at atoms variables) (actions_over task (contains atoms))) l
-IsUntranslated task (fault.BadAtom k) = ⊥
-IsUntranslated task (fault.Missing p) = ⊥
-IsUntranslated task (fault.NotClosed p) = ⊥
-IsUntranslated task (fault.Uncovered k) = ⊥
-IsUntranslated task (fault.NotGroup k) = ⊥
-IsUntranslated task (fault.NotFull k) = ⊥
-IsUntranslated task (fault.Misplaced k) = ⊥
+
+-- a fault of the assembly of listed parts as their fault
+abbrev pub parts_fault_of : AssemblyFault → TranslateFault
+parts_fault_of assembly.OutOfMemory = parts.OutOfMemory
+parts_fault_of (assembly.Limit l) = parts.Limit l
+
+-- faults of grounding and of the assembly of a task as reasons why a task has no translation
+abbrev pub fault_of_ground : GroundFault → SizeFault
+fault_of_ground ground.OutOfMemory = size.OutOfMemory
+fault_of_ground ground.GroundLimit = size.GroundLimit
+
+abbrev pub fault_of_assembly : AssemblyFault → SizeFault
+fault_of_assembly assembly.OutOfMemory = size.OutOfMemory
+fault_of_assembly (assembly.Limit l) = size.Limit l

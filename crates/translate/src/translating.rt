@@ -5,34 +5,34 @@ ghost use Rattle.pddl_task.specs.Atoms.{contains};
 ghost use Rattle.pddl_task.specs.Planning.{IsPlanningTask, IsActionOf, has_small_costs, Action};
 ghost use Rattle.ground_theory.specs.Grounding.{actions_over, AreListedAtoms, AreListedActions, IsLeastClosedSet};
 ghost use Rattle.ground_atoms.specs.Order.{AreDistinct, IsAscending};
-ghost use Rattle.ground_bindings.specs.Search.{max_actions};
+ghost use Rattle.ground.specs.Search.{max_actions};
 ghost use Rattle.ground.specs.Rounds.{max_atoms};
 ghost use Rattle.translate_theory.specs.Translations.{AreVariables};
 ghost use Rattle.translate_theory.specs.Variables.{IsPlaced, variables_at};
 ghost use Rattle.translate_vars.specs.Faults.{IsFirstFault};
-ghost use Rattle.translate.specs.Translated.{IsReadTask, IsTranslation, HasSamePlans, AreChosenParts, IsTooLarge, IsUntranslated};
+ghost use Rattle.translate.specs.Translated.{IsReadTask, IsTranslation, HasSamePlans, AreChosenParts, IsTooLarge, IsUntranslated, parts_fault_of};
 ghost use Rattle.pddl_task.specs.Limits.{max_cost};
 
+use crate::fault::SizeFault;
 use crate::translated::Translated;
-use ground::{GroundFault, Grounded, ground};
+use ground::{Grounded, ground};
 use ground_atoms::Atoms;
-use mutex::ActionIndex;
-use mutex_proposals::groups;
+use mutex::{ActionIndex, groups};
 use pddl_task::{GroundAction, GroundAtom, Task};
 use std::alloc::{AllocError, Global};
 use translate_assembly::{AssemblyFault, assemble};
 use translate_choice::choose_variables;
 use translate_theory::ListedVariable;
-use translate_vars::{ListedParts, TranslateFault, check_parts};
+use translate_vars::{TranslateFault, check_parts};
 
 /// Returns the translation over atoms and variables that are fit. Fails with the first limit that its task would
 /// exceed, or if allocation fails.
 fn translated(
     alloc: Global,
     task: &Task,
-    parts: ListedParts,
+    parts: Grounded,
     variables: Vec<ListedVariable>,
-) -> Result<Translated, TranslateFault>
+) -> Result<Translated, AssemblyFault>
     requires costs { (a : Action) → IsActionOf task.now a → a.cost ≤ max_cost }
     requires placed { All (IsPlaced (length parts.atoms)) variables.items }
     requires listed { AreListedAtoms task.now parts.atoms }
@@ -45,18 +45,23 @@ fn translated(
     ensures translation { IfOk result (IsTranslation task.now) }
     ensures large { IfErr result (IsTooLarge task.now parts.atoms variables.items) }
 {
-    match assemble(alloc, task, &parts.atoms, &parts.actions, &variables) {
-        Ok(made) => {
-            made.task.recall();
-            Ok(Translated {
-                atoms: parts.atoms,
-                variables,
-                task: made.task,
-                places: made.carried,
-            })
-        }
-        Err(AssemblyFault::OutOfMemory) => Err(TranslateFault::OutOfMemory),
-        Err(AssemblyFault::Limit(limit)) => Err(TranslateFault::Limit(limit)),
+    let made = assemble(alloc, task, &parts.atoms, &parts.actions, &variables)?;
+    made.task.recall();
+    Ok(Translated {
+        atoms: parts.atoms,
+        variables,
+        task: made.task,
+        places: made.places,
+    })
+}
+
+/// Converts a fault of assembling listed parts into their fault.
+fn parts_fault(fault: AssemblyFault) -> TranslateFault
+    ensures { result ≡ parts_fault_of fault }
+{
+    match fault {
+        AssemblyFault::OutOfMemory => TranslateFault::OutOfMemory,
+        AssemblyFault::Limit(limit) => TranslateFault::Limit(limit),
     }
 }
 
@@ -82,12 +87,15 @@ pub fn with_variables(
     ensures fault { IfErr result (IsFirstFault task.now atoms.now variables.items) }
 {
     let parts = check_parts(alloc, task, atoms, &variables)?;
-    translated(alloc, task, parts, variables)
+    match translated(alloc, task, parts, variables) {
+        Ok(translated) => Ok(translated),
+        Err(fault) => Err(parts_fault(fault)),
+    }
 }
 
 /// Returns the least closed set of atoms, with the actions over it. Fails if a limit on atoms or actions is exceeded,
 /// or if allocation fails.
-fn grounded(alloc: Global, task: &Task) -> Result<Grounded, TranslateFault>
+fn grounded(alloc: Global, task: &Task) -> Result<Grounded, SizeFault>
     requires small { IsTrue (has_small_costs task.now) }
     ensures least { IfOk result (λ g. IsLeastClosedSet task.now (contains g.atoms)) }
     ensures few_atoms { IfOk result (λ g. length g.atoms ≤ max_atoms) }
@@ -97,15 +105,10 @@ fn grounded(alloc: Global, task: &Task) -> Result<Grounded, TranslateFault>
     ensures ascending { IfOk result (λ g. IsAscending g.atoms) }
     ensures fault { IfErr result (IsUntranslated task.now) }
 {
-    match ground(alloc, task) {
-        Ok(grounded) => {
-            // only for the proof: reading the list of atoms makes its invariant available, that they are distinct
-            let _ = grounded.atoms.as_slice().len();
-            Ok(grounded)
-        }
-        Err(GroundFault::OutOfMemory) => Err(TranslateFault::OutOfMemory),
-        Err(GroundFault::GroundLimit) => Err(TranslateFault::GroundLimit),
-    }
+    let grounded = ground(alloc, task)?;
+    // only for the proof: reading the list of atoms makes its invariant available, that they are distinct
+    let _ = grounded.atoms.as_slice().len();
+    Ok(grounded)
 }
 
 /// Chooses variables over the least closed set, by the proposed mutex groups.
@@ -132,7 +135,7 @@ fn chosen(
 ///
 /// Fails with `GroundLimit` if there are too many atoms or actions, with `Limit` if the finite-domain task over the
 /// variables that are chosen would have too many variables, values of a variable or operators, or if allocation fails.
-pub fn translate(alloc: Global, task: &Task) -> Result<Translated, TranslateFault>
+pub fn translate(alloc: Global, task: &Task) -> Result<Translated, SizeFault>
     requires { IsReadTask task.now }
     ensures translation { IfOk result (IsTranslation task.now) }
     ensures least { IfOk result (λ t. IsLeastClosedSet task.now (contains t.atoms)) }
@@ -142,9 +145,5 @@ pub fn translate(alloc: Global, task: &Task) -> Result<Translated, TranslateFaul
 {
     let grounded = grounded(alloc, task)?;
     let variables = chosen(alloc, task, &grounded)?;
-    let parts = ListedParts {
-        atoms: grounded.atoms,
-        actions: grounded.actions,
-    };
-    translated(alloc, task, parts, variables)
+    Ok(translated(alloc, task, grounded, variables)?)
 }

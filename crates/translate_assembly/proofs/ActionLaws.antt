@@ -9,7 +9,7 @@ use Rattle.pddl_task.specs.Atoms.{Atom, State, Literal, same_atom, contains, at_
 use Rattle.pddl_task.specs.Planning.{Vocabulary, Action}
 use Rattle.pddl_task.proofs.Lists.{Mem, bool_same, mem_get, get_of_mem, all_at, all_from, any_at, any_from, none_at, position_below, common_first}
 use Rattle.pddl_task.proofs.AtomLaws.{same_atom_true, same_atom_self, contains_mem, mem_contains, one_from, not_both, consistent_from}
-use Rattle.mutex.specs.Groups.{removes}
+use Rattle.mutex_index.specs.Groups.{removes}
 use Rattle.translate_theory.specs.Names.{action_name}
 use Rattle.translate_theory.specs.Translations.{Variable, condition_on, is_single, target_on, unless_equal, effect_on, facts, has_operator, operator_of}
 use Rattle.translate_assembly.specs.declared.slot.Slot.{Slot}

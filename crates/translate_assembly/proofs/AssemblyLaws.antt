@@ -11,7 +11,7 @@ use Rattle.pddl_task.specs.Planning.{PlanningTask, Action}
 use Rattle.pddl_task.proofs.Lists.{Mem, get_of_mem, all_mem, all_at, any_from}
 use Rattle.pddl_task.proofs.AtomLaws.{contains_mem, one_single, wanted_in}
 use Rattle.ground_theory.specs.Grounding.{AreListedActions}
-use Rattle.mutex.specs.Groups.{removes, is_excluded, is_constant}
+use Rattle.mutex_index.specs.Groups.{removes, is_excluded, is_constant}
 use Rattle.translate_theory.specs.Translations.{Variable, IsVariableOf, AreVariables, condition_on, facts, has_operator, operator_of, carried, value_in, value_names_of, translation}
 use Rattle.translate_theory.proofs.Following.{variable_cases, group_initially, adds_one}
 use Rattle.translate_assembly.specs.declared.slot.Slot.{Slot}

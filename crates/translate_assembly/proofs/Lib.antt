@@ -1,3 +1,5 @@
+pub mod PlaceLaws
+pub mod TextLaws
 pub mod SetLaws
 pub mod FactLaws
 pub mod SlotLaws

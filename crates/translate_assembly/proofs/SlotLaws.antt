@@ -13,11 +13,11 @@ use Rattle.pddl_task.specs.Atoms.{Atom, same_atom, contains}
 use Rattle.pddl_task.specs.Planning.{PlanningTask, Action}
 use Rattle.pddl_task.proofs.Lists.{bool_same, mem_get, all_mem, all_at, any_from, position_below}
 use Rattle.pddl_task.proofs.AtomLaws.{same_atom_true, same_atom_self, contains_mem}
-use Rattle.mutex.specs.Groups.{is_constant}
-use Rattle.mutex.specs.Places.{atoms_at}
-use Rattle.mutex.proofs.IndexLaws.{get_of_within, one_place}
+use Rattle.mutex_index.specs.Groups.{is_constant}
+use Rattle.mutex_index.specs.Places.{atoms_at}
+use Rattle.mutex_index.proofs.IndexLaws.{get_of_within, one_place}
 use Rattle.translate_theory.specs.Translations.{Variable, AreVariables}
-use Rattle.translate_names.proofs.PlaceLaws.{atoms_length}
+use Rattle.translate_assembly.proofs.PlaceLaws.{atoms_length}
 use Rattle.translate_theory.specs.Variables.{PlacedVariable, variables_at}
 use Rattle.translate_assembly.specs.declared.slot.Slot.{Slot}
 use Rattle.translate_assembly.specs.Slots.{Lookup, first_slot, slots_from, slot_of}

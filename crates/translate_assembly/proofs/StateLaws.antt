@@ -22,7 +22,7 @@ use Rattle.translate_assembly.specs.declared.slot.Slot.{Slot}
 use Rattle.translate_assembly.specs.Slots.{Lookup, with_slot, values_of}
 use Rattle.translate_assembly.specs.Limits.{is_long, IsPastLimitAt}
 use Rattle.translate_assembly.proofs.SlotLaws.{IsLookup}
-use Rattle.translate_names.proofs.PlaceLaws.{atoms_length}
+use Rattle.translate_assembly.proofs.PlaceLaws.{atoms_length}
 use Rattle.translate_assembly.proofs.LayerLaws.{place_of_one}
 
 get_set : (xs : List ℕ) (i x : ℕ) → slice_get (set xs i x) i ≡ option_map (λ y. x) (slice_get xs i)

@@ -59,7 +59,7 @@ pub struct Assembled {
     /// The finite-domain task.
     pub task: FdrTask,
     /// For each operator the index of its action, strictly increasing. There are as many indices as operators.
-    pub carried: Vec<usize>,
+    pub places: Vec<usize>,
 }
 
 /// Returns the finite-domain task over the atoms, with these variables and an operator for each action that can have
@@ -81,8 +81,8 @@ pub fn assemble(
     requires fit { AreVariables task.now atoms.now actions.now (variables_at atoms.now variables.now) }
     requires costs { All (λ a. a.cost ≤ max_cost) actions.now }
     ensures task { IfOk result (λ t. t.task ≡ translation task.now (variables_at atoms.now variables.now) actions.now) }
-    ensures count { IfOk result (λ t. length t.carried.items ≡ length t.task.operators) }
-    ensures carried { IfOk result (λ t. AreCarriedAt (variables_at atoms.now variables.now) actions.now t.carried.items) }
+    ensures count { IfOk result (λ t. length t.places.items ≡ length t.task.operators) }
+    ensures carried { IfOk result (λ t. AreCarriedAt (variables_at atoms.now variables.now) actions.now t.places.items) }
     ensures limit { (l : Limits) → IfErr result (λ e. e ≡ Limit l →
         IsPastLimit (translation task.now (variables_at atoms.now variables.now) actions.now) l) }
 {
@@ -97,7 +97,7 @@ pub fn assemble(
     )?;
     Ok(Assembled {
         task,
-        carried: parts.carried,
+        places: parts.carried,
     })
 }
 

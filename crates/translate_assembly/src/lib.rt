@@ -10,6 +10,7 @@ mod operators;
 mod parts;
 mod slot;
 mod table;
+mod texts;
 
 pub use assembly::{Assembled, AssemblyFault, assemble};
 pub use parts::{Parts, parts_of};

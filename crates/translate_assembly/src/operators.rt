@@ -9,11 +9,11 @@ ghost use Rattle.pddl_task.specs.Limits.{max_cost};
 use crate::conditions::{are_consistent, condition};
 use crate::effects::effect;
 use crate::table::Table;
+use crate::texts::action_name;
 use cost::Cost;
 use fdr::Operator;
 use pddl_task::{GroundAction, Vocabulary};
 use std::alloc::{AllocError, Global};
-use translate_names::action_name;
 
 /// Operators, and for each the index of its action in the list of actions.
 #[derive(Drop)]

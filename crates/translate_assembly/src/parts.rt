@@ -14,11 +14,11 @@ use crate::conditions::condition;
 use crate::initial::initial_state;
 use crate::operators::CarriedOperators;
 use crate::table::Table;
+use crate::texts::value_names;
 use fdr::{Fact, Operator};
 use ground_atoms::Atoms;
 use pddl_task::{GroundAction, Task};
 use std::alloc::{AllocError, Global};
-use translate_names::value_names;
 use translate_theory::ListedVariable;
 
 /// The parts that make up a finite-domain task.

@@ -13,13 +13,14 @@ use Rattle.pddl_task.specs.Atoms.{Atom, contains}
 use Rattle.pddl_task.proofs.Lists.{Mem, mem_get, get_of_mem, all_mem, all_from, filter_mem}
 use Rattle.pddl_task.proofs.AtomLaws.{mem_contains}
 use Rattle.ground_atoms.specs.Order.{AreDistinct}
-use Rattle.mutex.specs.Groups.{is_constant}
-use Rattle.mutex.specs.Places.{Indexed, atoms_at, has}
-use Rattle.mutex.proofs.PlaceLaws.{has_mem}
-use Rattle.mutex.proofs.TestLaws.{group_mem}
+use Rattle.mutex_index.specs.Groups.{is_constant}
+use Rattle.index_rows.specs.Numbers.{has}
+use Rattle.mutex_index.specs.Places.{Indexed, atoms_at}
+use Rattle.index_rows.proofs.NumberLaws.{has_mem}
+use Rattle.mutex_index.proofs.TestLaws.{group_mem}
 use Rattle.translate_theory.specs.Translations.{Variable, IsVariableOf, AreVariables}
 use Rattle.translate_theory.specs.Variables.{PlacedVariable, IsPlaced, variable_at, variables_at}
-use Rattle.mutex_proposals.specs.Proposals.{is_movable, IsProposal}
+use Rattle.mutex.specs.Proposals.{is_movable, IsProposal}
 use Rattle.translate_choice.specs.declared.choice.Choice.{Choice}
 use Rattle.translate_choice.specs.Choices.{is_constant_at, IsRest, IsVariableAt, IsNext, IsChoice, AddsVariable, IsDoneBelow}
 use Rattle.translate_choice.specs.Greedy.{is_in, group_at, left_of}

@@ -12,10 +12,10 @@ use Rattle.std.proofs.lemmas.List.Elements.{All-nil, All-cons, All-head, All-tai
 use Rattle.std.proofs.lemmas.List.Sorted.{Contains-permutation}
 use Rattle.std.proofs.lemmas.List.Sums.{sum_by-cons}
 use Rattle.pddl_task.proofs.Lists.{Mem, mem_from_contains, contains_from_mem, all_mem, filter_mem}
-use Rattle.mutex.specs.Places.{Indexed, has}
-use Rattle.mutex.specs.Tables.{IsTranspose}
-use Rattle.mutex.proofs.PlaceLaws.{has_mem, mem_has}
-use Rattle.mutex_proposals.specs.Proposals.{IsProposal}
+use Rattle.index_rows.specs.Numbers.{has, IsTranspose}
+use Rattle.mutex_index.specs.Places.{Indexed}
+use Rattle.index_rows.proofs.NumberLaws.{has_mem, mem_has}
+use Rattle.mutex.specs.Proposals.{IsProposal}
 use Rattle.translate_theory.specs.Variables.{PlacedVariable}
 use Rattle.translate_choice.specs.declared.choice.Choice.{Choice}
 use Rattle.translate_choice.specs.declared.queue.Candidate.{Candidate}

@@ -12,13 +12,14 @@ use Rattle.pddl_task.specs.Atoms.{Atom, contains, wants, at_most_one}
 use Rattle.pddl_task.proofs.Lists.{Mem, bool_same, any_at, all_mem, mem_from_contains}
 use Rattle.pddl_task.proofs.AtomLaws.{one_from, one_of, contains_mem, mem_contains}
 use Rattle.ground_atoms.specs.Order.{AreDistinct}
-use Rattle.mutex.specs.Groups.{is_constant, is_excluded, is_usable, is_full}
-use Rattle.mutex.specs.Places.{Indexed, atoms_at, has, literal_places}
-use Rattle.mutex.proofs.PlaceLaws.{has_mem, mem_has}
-use Rattle.mutex.proofs.TestLaws.{mem_group, group_mem}
-use Rattle.mutex.proofs.IndexLaws.{counted_one, one_counted, get_of_within, one_place, has_wanted_places}
+use Rattle.mutex_index.specs.Groups.{is_constant, is_excluded, is_usable, is_full}
+use Rattle.index_rows.specs.Numbers.{has}
+use Rattle.mutex_index.specs.Places.{Indexed, atoms_at, literal_places}
+use Rattle.index_rows.proofs.NumberLaws.{has_mem, mem_has}
+use Rattle.mutex_index.proofs.TestLaws.{mem_group, group_mem}
+use Rattle.mutex_index.proofs.IndexLaws.{counted_one, one_counted, get_of_within, one_place, has_wanted_places}
 use Rattle.translate_theory.specs.Translations.{Variable, IsGroupVariable, IsVariableOver}
-use Rattle.mutex_proposals.specs.Proposals.{is_movable}
+use Rattle.mutex.specs.Proposals.{is_movable}
 use Rattle.translate_choice.specs.Choices.{is_constant_at, is_left, AreGoals, IsRest, IsNext}
 use Rattle.translate_choice.specs.Greedy.{is_fit, variable_of}
 

@@ -3,11 +3,12 @@ use Rattle.std.specs.Prelude.{◌≡◌, ℕ, ◌<◌, Bool, true, false, ◌||�
 use Rattle.std.specs.List.Sorted.{IsStrictlyIncreasing}
 use Rattle.std.specs.Option.{option_map_or}
 use Rattle.pddl_task.specs.Atoms.{Atom, wants}
-use Rattle.mutex.specs.Groups.{is_constant}
-use Rattle.mutex.specs.Places.{Indexed, has}
+use Rattle.mutex_index.specs.Groups.{is_constant}
+use Rattle.index_rows.specs.Numbers.{has}
+use Rattle.mutex_index.specs.Places.{Indexed}
 use Rattle.translate_theory.specs.Translations.{IsVariableOf}
 use Rattle.translate_theory.specs.Variables.{PlacedVariable, IsPlaced, variable_at}
-use Rattle.mutex_proposals.specs.Proposals.{is_movable}
+use Rattle.mutex.specs.Proposals.{is_movable}
 use Rattle.translate_choice.specs.Greedy.{is_in, IsSingle}
 use Rattle.translate_choice.specs.declared.choice.Choice.{Choice}
 

@@ -4,9 +4,9 @@ use Rattle.std.specs.Prelude.{◌≡◌, ℕ, ◌<◌, ◌≤◌, ◌⊎◌, ⊤
 use Rattle.std.specs.List.{list_any}
 use Rattle.std.specs.List.Sorted.{IsPermutation}
 use Rattle.pddl_task.specs.Atoms.{wants, at_most_one}
-use Rattle.mutex.specs.Groups.{is_usable, is_full}
-use Rattle.mutex.specs.Places.{Indexed, atoms_at, has}
-use Rattle.mutex.specs.Tables.{row}
+use Rattle.mutex_index.specs.Groups.{is_usable, is_full}
+use Rattle.index_rows.specs.Numbers.{has, row}
+use Rattle.mutex_index.specs.Places.{Indexed, atoms_at}
 use Rattle.translate_theory.specs.Variables.{PlacedVariable}
 use Rattle.translate_choice.specs.declared.queue.Candidate.{Candidate}
 

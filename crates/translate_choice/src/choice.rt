@@ -3,8 +3,8 @@
 ghost use Rattle.std.specs.Prelude.{◌≡◌, ◌+◌, ◌<◌, [], All, IfOk, IfSome, IfNone, OnOk, length};
 ghost use Rattle.translate_theory.specs.Translations.{AreVariables};
 ghost use Rattle.translate_theory.specs.Variables.{IsPlaced, variables_at};
-ghost use Rattle.mutex_proposals.specs.Proposals.{IsProposal};
-ghost use Rattle.mutex.specs.Places.{Indexed};
+ghost use Rattle.mutex.specs.Proposals.{IsProposal};
+ghost use Rattle.mutex_index.specs.Places.{Indexed};
 ghost use Rattle.std.specs.List.Sorted.{IsNonDecreasingBy};
 ghost use Rattle.translate_choice.specs.Choices.{least_place, IsNext, IsChoice, AddsVariable, AddsSingles, is_left, IsDoneBelow};
 ghost use Rattle.translate_choice.specs.Greedy.{left_of, left_by, AreQueued, IsFound, NoneFits, AreTakenAfter, AreChosen};
@@ -13,8 +13,7 @@ use crate::flags::{is_set, set};
 use crate::groups_at::GroupsAt;
 use crate::offers::Offers;
 use crate::queue::Queue;
-use mutex::ActionIndex;
-use mutex_proposals::Groups;
+use mutex::{ActionIndex, Groups};
 use std::alloc::{AllocError, Global};
 use translate_theory::ListedVariable;
 
@@ -151,7 +150,7 @@ fn least_place(variable: &ListedVariable) -> usize
 /// the earliest. Each other atom that is not constant becomes a variable of its own. A variable has the none value
 /// unless it has several atoms and they are a full group.
 ///
-/// The groups must be those of the index's atoms, none of them constant or excluded, as `mutex_proposals::groups`
+/// The groups must be those of the index's atoms, none of them constant or excluded, as `mutex::groups`
 /// returns them. A group is examined again each time that it loses atoms.
 pub fn choose_variables(
     alloc: Global,

@@ -1,7 +1,7 @@
 //! Flags by index.
 
 ghost use Rattle.std.specs.Prelude.{◌≡◌, ◌<◌, ◌==◌, ◌||◌, ℕ, false, length, slice_index_or, IfOk};
-ghost use Rattle.mutex.specs.Places.{has};
+ghost use Rattle.index_rows.specs.Numbers.{has};
 
 use std::alloc::{AllocError, Global};
 

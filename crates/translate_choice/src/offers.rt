@@ -4,17 +4,16 @@ ghost use Rattle.std.specs.Prelude.{◌≡◌, ◌<◌, ℕ, length, true, false
 ghost use Rattle.std.specs.List.Sorted.{IsStrictlyIncreasing};
 ghost use Rattle.pddl_task.specs.Atoms.{same_atom};
 ghost use Rattle.ground_atoms.specs.Order.{AreDistinct};
-ghost use Rattle.mutex.specs.Places.{literal_places};
-ghost use Rattle.mutex_proposals.specs.Proposals.{IsProposal};
-ghost use Rattle.mutex.specs.Places.{has};
+ghost use Rattle.mutex_index.specs.Places.{literal_places};
+ghost use Rattle.mutex.specs.Proposals.{IsProposal};
+ghost use Rattle.index_rows.specs.Numbers.{has};
 ghost use Rattle.translate_choice.specs.Choices.{AreGoals, IsRest};
 ghost use Rattle.translate_choice.specs.Greedy.{is_fit, variable_of, group_at, left_of, AreQueued, IsQueuedIfFit, Keeps};
 
 use crate::flags::{is_set, set_flags};
 use crate::queue::Queue;
 use ground_atoms::Atoms;
-use mutex::ActionIndex;
-use mutex_proposals::{Group, Groups};
+use mutex::{ActionIndex, Group, Groups};
 use pddl_task::GroundLiteral;
 use std::alloc::{AllocError, Global};
 use translate_theory::ListedVariable;

@@ -12,12 +12,12 @@ use Rattle.pddl_task.specs.Atoms.{Atom, State, contains, at_most_one}
 use Rattle.pddl_task.specs.Planning.{PlanningTask, IsPlanningTask, Action, IsActionOf}
 use Rattle.pddl_task.specs.Plans.{is_applicable, IsValidPlan, IsReachedBy, total_cost, HasNoValidPlan}
 use Rattle.ground_theory.specs.Grounding.{AreListedAtoms, AreListedActions}
-use Rattle.mutex.specs.Groups.{is_usable}
+use Rattle.mutex_index.specs.Groups.{is_usable}
 use Rattle.translate_theory.specs.Translations.{Variable, AreVariables, value_in, translation, AreOperatorsOf}
 use Rattle.pddl_task.proofs.Lists.{Mem, mem_from_contains, mem_get, all_mem}
 use Rattle.pddl_task.proofs.AtomLaws.{one_of, one_single}
 use Rattle.ground_theory.proofs.Runs.{IsInside, kept_along, step_inside, initial_inside, applies_over}
-use Rattle.mutex.proofs.GroupLaws.{one_after}
+use Rattle.mutex_index.proofs.GroupLaws.{one_after}
 use Rattle.translate_theory.proofs.Following.{group_initially, adds_one, over_at, variable_cases, variable_at}
 use Rattle.translate_theory.proofs.SamePlans.{plans_same, costs_same, operators_of_plan, actions_of_plan}
 

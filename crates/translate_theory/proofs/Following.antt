@@ -9,13 +9,13 @@ use Rattle.pddl_task.specs.Atoms.{Atom, State, Literal, contains, at_most_one, s
 use Rattle.pddl_task.specs.Planning.{PlanningTask, Action, IsActionOf}
 use Rattle.pddl_task.specs.Plans.{is_applicable, next_state}
 use Rattle.ground_theory.specs.Grounding.{AreListedAtoms, AreListedActions}
-use Rattle.mutex.specs.Groups.{removes, is_excluded, is_constant}
-use Rattle.mutex.specs.Groups.{takes_over, starts_inside, is_group, is_usable}
+use Rattle.mutex_index.specs.Groups.{removes, is_excluded, is_constant}
+use Rattle.mutex_index.specs.Groups.{takes_over, starts_inside, is_group, is_usable}
 use Rattle.translate_theory.specs.Translations.{Variable, IsGroupVariable, IsVariableOf, IsVariableOver, AreVariables, value_in, condition_on, target_on, is_single}
 use Rattle.pddl_task.proofs.Lists.{Mem, mem_from_contains, all_mem, bool_same, all_at, any_at, any_from, none_at, same_position, position_none, position_below, common_first}
 use Rattle.pddl_task.proofs.AtomLaws.{contains_mem, one_of, one_single, wanted_holds, excluded_fails, satisfied_from, not_both, wanted_in}
 use Rattle.ground_theory.proofs.Runs.{IsInside, step_inside, initial_inside, applies_over}
-use Rattle.mutex.proofs.GroupLaws.{next_kept, one_after}
+use Rattle.mutex_index.proofs.GroupLaws.{next_kept, one_after}
 use Rattle.translate_theory.proofs.ValueLaws.{group_value, single_value}
 
 -- some element passes if not none do

@@ -11,8 +11,8 @@ use Rattle.pddl_task.specs.Atoms.{Atom, State, Literal, contains, wants, exclude
 use Rattle.pddl_task.specs.Planning.{PlanningTask, Action, Vocabulary}
 use Rattle.translate_theory.specs.Names.{atom_names, atom_text, none_name}
 use Rattle.ground_theory.specs.Grounding.{AreListedAtoms, AreListedActions}
-use Rattle.mutex.specs.Groups.{removes, is_excluded}
-use Rattle.mutex.specs.Groups.{is_full}
+use Rattle.mutex_index.specs.Groups.{removes, is_excluded}
+use Rattle.mutex_index.specs.Groups.{is_full}
 use Rattle.translate_theory.specs.Translations.{Variable, IsGroupVariable, AreVariables, range_of, value_in, condition_on, target_on, effect_on, unless_equal, is_single, facts, operator_of, carried, has_operator, translation, value_names_of}
 use Rattle.pddl_task.proofs.Lists.{Mem, filter_mem, mem_from_contains, if_at, all_at, any_at, any_from, position_within, position_below}
 use Rattle.translate_theory.proofs.Following.{variable_cases, variable_at}

@@ -13,7 +13,7 @@ use Rattle.pddl_task.specs.Atoms.{Atom, State, Literal, contains, at_most_one, s
 use Rattle.pddl_task.specs.Planning.{PlanningTask, IsPlanningTask, Schema, Action, IsActionOf, has_instance, cost_of_schema, literal_of, atoms_of}
 use Rattle.pddl_task.specs.Plans.{is_applicable, next_state, state_after, LeadsToGoal, IsValidPlan, total_cost}
 use Rattle.ground_theory.specs.Grounding.{AreListedAtoms, AreListedActions}
-use Rattle.mutex.specs.Groups.{is_excluded}
+use Rattle.mutex_index.specs.Groups.{is_excluded}
 use Rattle.translate_theory.specs.Translations.{Variable, AreVariables, value_in, condition_on, target_on, effect_on, unless_equal, facts, has_operator, operator_of, carried, translation, AreOperatorsOf}
 use Rattle.pddl_task.proofs.Lists.{Mem, mem_get, get_of_mem, mem_filter, filter_mem, all_mem, bool_same, contains_from_mem, all_at, all_from, any_from, map_same}
 use Rattle.pddl_task.proofs.AtomLaws.{one_single, one_less, wanted_holds, excluded_fails, consistent_from}

@@ -6,13 +6,13 @@ use Rattle.std.proofs.lemmas.Bool.{and_parts, and_from, or_cases, or_left, or_ri
 use Rattle.pddl_task.specs.Atoms.{Atom, State, contains, at_most_one, wants}
 use Rattle.pddl_task.specs.Planning.{Action}
 use Rattle.pddl_task.specs.Plans.{is_applicable, next_state}
-use Rattle.mutex.specs.Groups.{removes}
-use Rattle.mutex.specs.Groups.{takes_over, starts_inside}
+use Rattle.mutex_index.specs.Groups.{removes}
+use Rattle.mutex_index.specs.Groups.{takes_over, starts_inside}
 use Rattle.translate_theory.specs.Translations.{Variable, value_in, target_on, is_single}
 use Rattle.pddl_task.proofs.Lists.{Mem, bool_same, if_at, any_at, any_from, none_at, same_position, position_none}
 use Rattle.pddl_task.proofs.AtomLaws.{one_of, wanted_holds}
 use Rattle.ground_theory.proofs.Runs.{next_was}
-use Rattle.mutex.proofs.GroupLaws.{next_added, next_kept, after_adding}
+use Rattle.mutex_index.proofs.GroupLaws.{next_added, next_kept, after_adding}
 
 -- the value after a step is the one that the action leaves, if what is removed or kept is as a group or a single atom has it
 value_moves : (state : State) (a : Action) (v : Variable)

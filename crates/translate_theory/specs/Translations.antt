@@ -6,7 +6,7 @@ use Rattle.fdr.specs.declared.fact.Fact.{Fact}
 use Rattle.fdr.specs.Tasks.{FiniteDomainTask, Operator}
 use Rattle.pddl_task.specs.Atoms.{Atom, State, Literal, contains, at_most_one, wants, excludes, is_contradictory}
 use Rattle.pddl_task.specs.Planning.{PlanningTask, Vocabulary, Action}
-use Rattle.mutex.specs.Groups.{removes, is_excluded, is_constant, is_usable, is_full}
+use Rattle.mutex_index.specs.Groups.{removes, is_excluded, is_constant, is_usable, is_full}
 use Rattle.translate_theory.specs.Names.{atom_names, none_name, action_name}
 
 -- the values are the atoms, followed by the none value if `has_none` is set

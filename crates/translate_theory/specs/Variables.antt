@@ -2,7 +2,7 @@
 use Rattle.std.specs.Prelude.{ℕ, ◌<◌, Bool, List, length, map, All}
 use Rattle.std.specs.List.Sorted.{IsStrictlyIncreasing}
 use Rattle.pddl_task.specs.Atoms.{Atom}
-use Rattle.mutex.specs.Places.{atoms_at}
+use Rattle.mutex_index.specs.Places.{atoms_at}
 use Rattle.translate_theory.specs.Translations.{Variable}
 
 -- the indices of the atoms, and whether the variable has the none value

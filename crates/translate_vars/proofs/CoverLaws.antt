@@ -14,9 +14,10 @@ use Rattle.pddl_task.specs.Planning.{PlanningTask, Action}
 use Rattle.pddl_task.proofs.Lists.{Mem, all_mem, mem_get, get_of_mem, all_from, none_at}
 use Rattle.pddl_task.proofs.AtomLaws.{contains_mem, mem_contains}
 use Rattle.ground_atoms.specs.Order.{AreDistinct}
-use Rattle.mutex.specs.Groups.{is_constant, is_excluded, is_usable, is_full}
-use Rattle.mutex.specs.Places.{atoms_at, has}
-use Rattle.mutex.proofs.IndexLaws.{get_of_within, one_place}
+use Rattle.mutex_index.specs.Groups.{is_constant, is_excluded, is_usable, is_full}
+use Rattle.index_rows.specs.Numbers.{has}
+use Rattle.mutex_index.specs.Places.{atoms_at}
+use Rattle.mutex_index.proofs.IndexLaws.{get_of_within, one_place}
 use Rattle.translate_theory.specs.Translations.{Variable, IsVariableOver, IsVariableOf, AreVariables}
 use Rattle.translate_theory.specs.Variables.{PlacedVariable, IsPlaced, variable_at, variables_at}
 use Rattle.translate_vars.specs.Faults.{are_several, is_misplaced, is_no_group, is_not_full, is_in_order, AreInOrder, is_uncovered, IsFirstUncovered}

@@ -12,7 +12,7 @@ use Rattle.ground_atoms.specs.Order.{comes_before}
 use Rattle.ground_atoms.proofs.OrderLaws.{before_of_differing}
 use Rattle.ground.specs.Rounds.{wanted_atoms}
 use Rattle.ground.specs.Closing.{IsLeastMissing, IsFirstOpen}
-use Rattle.mutex.proofs.IndexLaws.{get_of_within}
+use Rattle.mutex_index.proofs.IndexLaws.{get_of_within}
 use Rattle.translate_theory.specs.Translations.{Variable}
 use Rattle.translate_vars.specs.declared.fault.TranslateFault.{TranslateFault}
 use Rattle.translate_vars.specs.declared.fault.TranslateFault.TheVariants as fault

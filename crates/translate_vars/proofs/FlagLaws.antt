@@ -13,9 +13,10 @@ use Rattle.pddl_task.specs.Atoms.{Atom, State, Literal, same_atom, contains, at_
 use Rattle.pddl_task.proofs.Lists.{Mem, bool_same}
 use Rattle.pddl_task.proofs.AtomLaws.{same_atom_true, one_of, one_from, contains_mem, mem_contains}
 use Rattle.ground_atoms.specs.Order.{AreDistinct, with_atom}
-use Rattle.mutex.specs.Places.{atoms_at, has}
-use Rattle.mutex.proofs.PlaceLaws.{has_mem, mem_has}
-use Rattle.mutex.proofs.IndexLaws.{counted_one, one_counted, get_of_within, one_place}
+use Rattle.index_rows.specs.Numbers.{has}
+use Rattle.mutex_index.specs.Places.{atoms_at}
+use Rattle.index_rows.proofs.NumberLaws.{has_mem, mem_has}
+use Rattle.mutex_index.proofs.IndexLaws.{counted_one, one_counted, get_of_within, one_place}
 use Rattle.translate_vars.specs.Flags.{flag_at, Tell}
 
 -- ---- how flags are made

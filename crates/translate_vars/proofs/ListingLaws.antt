@@ -11,7 +11,7 @@ use Rattle.pddl_task.specs.Atoms.{Atom, contains}
 use Rattle.pddl_task.specs.Planning.{PlanningTask, IsAtomOf}
 use Rattle.pddl_task.proofs.Lists.{mem_get, all_mem, mem_from_contains, get_of_mem}
 use Rattle.pddl_task.proofs.AtomLaws.{contains_mem, mem_contains}
-use Rattle.mutex.proofs.IndexLaws.{get_of_within}
+use Rattle.mutex_index.proofs.IndexLaws.{get_of_within}
 use Rattle.translate_vars.specs.Faults.{AreAtomsOf, IsBadAtom}
 
 -- an element of a longer beginning is one of a shorter, or the one at its end

@@ -8,8 +8,8 @@ use Rattle.pddl_task.specs.Planning.{PlanningTask, Action}
 use Rattle.pddl_task.proofs.Lists.{Mem, all_mem}
 use Rattle.ground_theory.specs.Grounding.{actions_over}
 use Rattle.ground_atoms.specs.Order.{AreDistinct}
-use Rattle.mutex.specs.Groups.{is_constant, is_excluded, is_usable, is_full}
-use Rattle.mutex.specs.Places.{Indexed, atoms_at}
+use Rattle.mutex_index.specs.Groups.{is_constant, is_excluded, is_usable, is_full}
+use Rattle.mutex_index.specs.Places.{Indexed, atoms_at}
 use Rattle.translate_theory.specs.Translations.{Variable}
 use Rattle.translate_theory.specs.Variables.{PlacedVariable, IsPlaced, variable_at, variables_at}
 use Rattle.translate_vars.specs.declared.fault.TranslateFault.{TranslateFault}

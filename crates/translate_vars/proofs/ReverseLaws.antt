@@ -7,7 +7,7 @@ use Rattle.pddl_task.specs.Atoms.{Atom, contains}
 use Rattle.pddl_task.specs.Planning.{PlanningTask, Action}
 use Rattle.pddl_task.proofs.Lists.{Mem, all_mem, mem_get, all_at, none_at, any_at, any_from}
 use Rattle.pddl_task.proofs.AtomLaws.{contains_mem, mem_contains}
-use Rattle.mutex.specs.Groups.{is_constant, is_full}
+use Rattle.mutex_index.specs.Groups.{is_constant, is_full}
 use Rattle.translate_theory.specs.Translations.{Variable, IsVariableOver, IsVariableOf, AreVariables}
 use Rattle.translate_vars.specs.Faults.{are_several, is_in_order, AreInOrder, is_uncovered}
 use Rattle.translate_vars.proofs.OrderLaws.{are_in}

@@ -11,7 +11,7 @@ use Rattle.pddl_task.proofs.Lists.{mem_get, all_at, any_from}
 use Rattle.pddl_task.proofs.AtomLaws.{contains_mem}
 use Rattle.ground_theory.specs.Grounding.{actions_over, IsClosed}
 use Rattle.ground_theory.proofs.Binding.{closed_forth}
-use Rattle.ground_bindings.specs.Search.{max_actions}
+use Rattle.ground.specs.Search.{max_actions}
 use Rattle.ground.specs.Rounds.{max_atoms}
 use Rattle.ground.specs.Closing.{is_open}
 use Rattle.translate_theory.specs.Translations.{Variable}

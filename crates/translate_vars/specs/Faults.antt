@@ -8,10 +8,10 @@ use Rattle.pddl_task.specs.Atoms.{Atom, State, contains, at_most_one, wants, has
 use Rattle.pddl_task.specs.Planning.{PlanningTask, Action, IsAtomOf}
 use Rattle.ground_theory.specs.Grounding.{actions_over, IsClosedSet}
 use Rattle.ground_atoms.specs.Order.{AreDistinct}
-use Rattle.ground_bindings.specs.Search.{max_actions}
+use Rattle.ground.specs.Search.{max_actions}
 use Rattle.ground.specs.Rounds.{max_atoms, wanted_atoms}
 use Rattle.ground.specs.Closing.{IsLeastMissing, IsFirstOpen}
-use Rattle.mutex.specs.Groups.{is_excluded, is_constant, is_usable, is_full}
+use Rattle.mutex_index.specs.Groups.{is_excluded, is_constant, is_usable, is_full}
 use Rattle.translate_theory.specs.Translations.{Variable}
 use Rattle.translate_theory.specs.Variables.{PlacedVariable, variables_at}
 use Rattle.translate_vars.specs.declared.fault.TranslateFault.{TranslateFault}

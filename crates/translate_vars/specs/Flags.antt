@@ -2,8 +2,8 @@
 use Rattle.std.specs.Prelude.{◌≡◌, ℕ, Bool, false, ◌&&◌, ◌||◌, not, nat_le, nat_lt, if◌then◌else◌, count_by, List, length, Option, Some, None, slice_get, slice_index_or}
 use Rattle.std.specs.List.{list_any}
 use Rattle.pddl_task.specs.Atoms.{Atom, State, wants}
-use Rattle.mutex.specs.Groups.{is_constant, is_excluded, is_usable, is_full}
-use Rattle.mutex.specs.Places.{Indexed, atoms_at}
+use Rattle.mutex_index.specs.Groups.{is_constant, is_excluded, is_usable, is_full}
+use Rattle.mutex_index.specs.Places.{Indexed, atoms_at}
 use Rattle.translate_theory.specs.Variables.{PlacedVariable}
 use Rattle.translate_vars.specs.declared.fault.TranslateFault.{TranslateFault}
 use Rattle.translate_vars.specs.declared.fault.TranslateFault.TheVariants.{Misplaced, NotGroup, NotFull}

@@ -4,7 +4,7 @@ use Rattle.std.specs.List.{list_any}
 use Rattle.pddl_task.specs.Atoms.{Atom, contains}
 use Rattle.pddl_task.specs.Planning.{PlanningTask}
 use Rattle.ground_theory.specs.Grounding.{AreListedAtoms, actions_over}
-use Rattle.ground_bindings.specs.Search.{max_actions}
+use Rattle.ground.specs.Search.{max_actions}
 use Rattle.ground.specs.Rounds.{max_atoms}
 use Rattle.translate_theory.specs.Translations.{AreVariables}
 use Rattle.translate_theory.specs.Variables.{PlacedVariable, variables_at}

@@ -1,6 +1,6 @@
 -- Faults of a grounding, as faults of a translation.
-use Rattle.ground_bindings.specs.declared.fault.GroundFault.{GroundFault}
-use Rattle.ground_bindings.specs.declared.fault.GroundFault.TheVariants as ground
+use Rattle.ground.specs.declared.fault.GroundFault.{GroundFault}
+use Rattle.ground.specs.declared.fault.GroundFault.TheVariants as ground
 use Rattle.translate_vars.specs.declared.fault.TranslateFault.{TranslateFault}
 use Rattle.translate_vars.specs.declared.fault.TranslateFault.TheVariants as fault
 

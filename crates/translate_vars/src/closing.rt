@@ -5,7 +5,7 @@ ghost use Rattle.std.specs.List.{list_all};
 ghost use Rattle.std.specs.Option.{option_copied};
 ghost use Rattle.pddl_task.specs.Atoms.{contains, has_wanted};
 ghost use Rattle.ground_theory.specs.Grounding.{IsClosedSet, actions_over};
-ghost use Rattle.ground_bindings.specs.Search.{max_actions};
+ghost use Rattle.ground.specs.Search.{max_actions};
 ghost use Rattle.ground.specs.Rounds.{wanted_atoms};
 ghost use Rattle.translate_theory.specs.Variables.{PlacedVariable};
 ghost use Rattle.translate_vars.specs.Parts.{AreWithinLimits};

@@ -2,8 +2,8 @@
 
 ghost use Rattle.std.specs.Prelude.{◌≡◌, ◌==◌, ◌||◌, ℕ, ◌<◌, length, IfOk};
 ghost use Rattle.pddl_task.specs.Atoms.{Atom, contains, wants};
-ghost use Rattle.mutex.specs.Groups.{is_constant, is_excluded};
-ghost use Rattle.mutex.specs.Places.{has};
+ghost use Rattle.mutex_index.specs.Groups.{is_constant, is_excluded};
+ghost use Rattle.index_rows.specs.Numbers.{has};
 ghost use Rattle.translate_vars.specs.Flags.{flag_at, Tell};
 
 use ground_atoms::Atoms;

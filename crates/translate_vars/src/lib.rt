@@ -14,4 +14,4 @@ mod parts;
 
 pub use fault::TranslateFault;
 pub use laws::{fit_has_no_fault, one_fault};
-pub use parts::{ListedParts, check_parts};
+pub use parts::check_parts;

@@ -13,27 +13,17 @@ use crate::covering::check_variables;
 use crate::fault::TranslateFault;
 use crate::limits::check_limits;
 use crate::listing::list_atoms;
-use ground::actions_over;
-use ground_atoms::Atoms;
-use pddl_task::{GroundAction, GroundAtom, Task};
+use ground::{Grounded, actions_over};
+use pddl_task::{GroundAtom, Task};
 use std::alloc::Global;
 use translate_theory::ListedVariable;
 
-/// Distinct atoms, and all ground actions over them, by schema and then by objects.
-#[derive(Drop)]
-pub struct ListedParts {
-    /// The atoms, in the order in which they were listed.
-    pub atoms: Atoms,
-    /// The ground actions over the atoms.
-    pub actions: Vec<GroundAction>,
-}
-
 /// Checks that the atoms and the variables over them are fit for a translation of the task (Helmert 2009), and returns
-/// the atoms with the ground actions over them. The atoms must be distinct atoms of the task and a closed set with the
-/// initial atoms and those of the goal. Each atom that is not constant must be in exactly one variable, and constant
-/// atoms in none. Several atoms of one variable must be a usable mutex group with at most one goal, none of them used
-/// negatively, and with the none value unless the group is full. A variable with a single atom must have the none
-/// value.
+/// the atoms, in their order, with the ground actions over them. The atoms must be distinct atoms of the task and a
+/// closed set with the initial atoms and those of the goal. Each atom that is not constant must be in exactly one
+/// variable, and constant atoms in none. Several atoms of one variable must be a usable mutex group with at most one
+/// goal, none of them used negatively, and with the none value unless the group is full. A variable with a single atom
+/// must have the none value.
 ///
 /// Fails with the first fault, or if allocation fails. The order is: the numbers of atoms, variables and values; the
 /// atoms, in their order; the number of actions; the missing atoms; the variables, in their order; and the atoms in no
@@ -43,7 +33,7 @@ pub fn check_parts(
     task: &Task,
     atoms: &[GroundAtom],
     variables: &[ListedVariable],
-) -> Result<ListedParts, TranslateFault>
+) -> Result<Grounded, TranslateFault>
     requires small { IsTrue (has_small_costs task.now) }
     requires placed { All (IsPlaced (length atoms.now)) variables.now }
     ensures atoms { IfOk result (λ parts. parts.atoms ≡ atoms.now) }
@@ -56,7 +46,7 @@ pub fn check_parts(
     let actions = actions_over(alloc, task, &listed)?;
     check_closed(alloc, task, &listed, &actions)?;
     check_variables(alloc, task, &listed, &actions, variables)?;
-    Ok(ListedParts {
+    Ok(Grounded {
         atoms: listed,
         actions,
     })

@@ -1,3 +1,4 @@
+pub mod ReadPlans
 pub mod PlanLaws
 pub mod PlanWordTests
 pub mod Comments

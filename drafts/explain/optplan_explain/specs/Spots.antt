@@ -8,8 +8,8 @@ use Rattle.pddl.specs.declared.fault.PddlFault.{PddlFault}
 use Rattle.pddl.specs.declared.fault.PddlFault.TheVariants as task
 use Rattle.validate.specs.declared.plan.PlanFault.{PlanFault}
 use Rattle.validate.specs.declared.plan.PlanFault.TheVariants as plan
-use Rattle.sasfile.specs.declared.fault.SasFault.{SasFault}
-use Rattle.sasfile.specs.declared.fault.SasFault.TheVariants as sas
+use Rattle.sasfile_reader.specs.declared.fault.SasFault.{SasFault}
+use Rattle.sasfile_reader.specs.declared.fault.SasFault.TheVariants as sas
 use Rattle.cert_text.specs.declared.fault.CertFault.{CertFault}
 use Rattle.cert_text.specs.declared.fault.CertFault.TheVariants as cert
 use Rattle.optplan_replies.specs.declared.fault.FileWord.{FileWord}

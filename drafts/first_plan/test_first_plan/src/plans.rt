@@ -9,7 +9,7 @@ use scp::{Columns, choose_columns, make_columns};
 use std::alloc::{AllocError, Global};
 use std::process::Abort;
 use std::thread::Threads;
-use test_tasks::{fact, task};
+use testing_tasks::{fact, task};
 
 /// A precondition, an effect, and a cost.
 type Step = (&'static [(usize, u32)], &'static [(usize, u32)], u64);

@@ -3,16 +3,16 @@ use Rattle.std.proofs.Common.{inl, inr, ◌≡◌, ◌≢◌, ◌⊎◌, ◌<◌
 use Rattle.std.specs.Prelude.{Result, Ok, Err, IfOk, IfErr, IsErrAnd}
 use Rattle.cost.specs.Distances.{Distance, Finite, Infinite, ◌≤ᵈ◌}
 use Rattle.fdr.specs.Tasks.{FiniteDomainTask, EveryPlanCostsAtLeast, IsPlan, plan_cost}
-use Rattle.sasfile.specs.SasTexts.{SpellsTask}
-use Rattle.sasfile.specs.Reading.{task_in, Fails}
-use Rattle.sasfile.specs.declared.fault.SasFault.{SasFault}
-use Rattle.sasfile.specs.declared.fault.SasFault.TheVariants as sas_fault
-use Rattle.sasfile.proofs.Promises.{one_reading_is}
+use Rattle.sasfile_reader.specs.SasTexts.{SpellsTask}
+use Rattle.sasfile_reader.specs.Reading.{task_in, Fails}
+use Rattle.sasfile_reader.specs.declared.fault.SasFault.{SasFault}
+use Rattle.sasfile_reader.specs.declared.fault.SasFault.TheVariants as sas_fault
+use Rattle.sasfile_reader.proofs.Promises.{one_reading_is}
 use Rattle.validate.specs.declared.plan.PlanFault.{PlanFault}
 use Rattle.validate.specs.declared.plan.PlanFault.TheVariants as plan_fault
-use Rattle.checker.specs.Answers as checked
-use Rattle.checker.specs.declared.fault.CheckFault.{CheckFault}
-use Rattle.checker.specs.declared.fault.CheckFault.TheVariants as check
+use Rattle.checker_fdr.specs.Answers as checked
+use Rattle.checker_fdr.specs.declared.fault.CheckFault.{CheckFault}
+use Rattle.checker_fdr.specs.declared.fault.CheckFault.TheVariants as check
 use Rattle.optplan_plan_texts.specs.Plain.{plain}
 use Rattle.optplan_optimal_sas.specs.declared.fault.SasOptimalityFault.{SasOptimalityFault}
 use Rattle.optplan_optimal_sas.specs.declared.flaw.PlanFlaw.{PlanFlaw}

@@ -3,13 +3,13 @@ use Rattle.std.proofs.Common.{inl, inr, ◌≡◌, ◌≢◌, ◌⊎◌, ℕ, �
 use Rattle.std.specs.Prelude.{Result, Ok, Err, codes}
 use Rattle.cost.specs.Distances.{Distance, Finite, Infinite, ◌≤ᵈ◌}
 use Rattle.fdr.specs.Tasks.{FiniteDomainTask}
-use Rattle.sasfile.specs.SasTexts.{SpellsTask}
-use Rattle.sasfile.proofs.Promises.{one_reading_is, no_fault_is}
+use Rattle.sasfile_reader.specs.SasTexts.{SpellsTask}
+use Rattle.sasfile_reader.proofs.Promises.{one_reading_is, no_fault_is}
 use Rattle.checker_clauses.specs.declared.violation.Violation.{Violation}
-use Rattle.checker.specs.Answers as checked
-use Rattle.checker.specs.declared.verdict.Verdict.{Verdict}
-use Rattle.checker.specs.declared.verdict.Verdict.TheVariants.{Accepted, Rejected}
-use Rattle.checker.proofs.OneAnswer as checker_laws
+use Rattle.checker_fdr.specs.Answers as checked
+use Rattle.checker_fdr.specs.declared.verdict.Verdict.{Verdict}
+use Rattle.checker_fdr.specs.declared.verdict.Verdict.TheVariants.{Accepted, Rejected}
+use Rattle.checker_fdr.proofs.OneAnswer as checker_laws
 use Rattle.optplan_plan_texts.specs.Plain.{plain}
 use Rattle.optplan_optimal_sas.specs.declared.flaw.PlanFlaw.{PlanFlaw}
 use Rattle.optplan_optimal_sas.specs.declared.verdict.SasOptimalityVerdict.{SasOptimalityVerdict}

@@ -2,17 +2,17 @@
 use Rattle.std.proofs.Common.{inl, inr, ◌≡◌, ◌≢◌, ◌⊎◌, ℕ, ◌<◌, ◌≤◌, ◌-◌, ◌^◌, Bool, true, false, List, length, refl, sym, ap, subst, ◌∙◌}
 use Rattle.std.specs.Prelude.{Ok, Err}
 use Rattle.fdr.specs.Tasks.{FiniteDomainTask}
-use Rattle.sasfile.specs.SasTexts.{SpellsTask}
-use Rattle.sasfile.proofs.Promises.{no_fault_is}
+use Rattle.sasfile_reader.specs.SasTexts.{SpellsTask}
+use Rattle.sasfile_reader.proofs.Promises.{no_fault_is}
 use Rattle.cert_value.specs.Certificates.{CertificateValue}
 use Rattle.cert_text.specs.Reading.{certificate_of}
 use Rattle.cert_text.specs.declared.fault.CertFault.{CertFault}
 use Rattle.cert_text.proofs.Promises.{one_certificate, not_both}
 use Rattle.validate.specs.declared.plan.PlanFault.{PlanFault}
-use Rattle.checker.specs.Answers as checked
-use Rattle.checker.specs.declared.fault.CheckFault.TheVariants as check
-use Rattle.checker.specs.declared.verdict.Verdict.{Verdict}
-use Rattle.checker.specs.declared.verdict.Verdict.TheVariants.{Accepted, Rejected}
+use Rattle.checker_fdr.specs.Answers as checked
+use Rattle.checker_fdr.specs.declared.fault.CheckFault.TheVariants as check
+use Rattle.checker_fdr.specs.declared.verdict.Verdict.{Verdict}
+use Rattle.checker_fdr.specs.declared.verdict.Verdict.TheVariants.{Accepted, Rejected}
 use Rattle.optplan_plan_texts.specs.Plain.{plain}
 use Rattle.optplan_optimal_sas.specs.declared.fault.SasOptimalityFault.{SasOptimalityFault}
 use Rattle.optplan_optimal_sas.specs.declared.fault.SasOptimalityFault.TheVariants.{OutOfMemory, Sas, Plan, Cert}

@@ -2,13 +2,13 @@
 use Rattle.std.specs.Prelude.{◌≡◌, ◌≢◌, ◌⊎◌, ℕ, ◌<◌, List, Err}
 use Rattle.cost.specs.Distances.{Distance, Finite, Infinite, ◌≤ᵈ◌}
 use Rattle.fdr.specs.Tasks.{FiniteDomainTask}
-use Rattle.sasfile.specs.SasTexts.{SpellsTask}
-use Rattle.sasfile.specs.Reading.{task_in}
-use Rattle.sasfile.specs.declared.fault.SasFault.TheVariants as sas_fault
+use Rattle.sasfile_reader.specs.SasTexts.{SpellsTask}
+use Rattle.sasfile_reader.specs.Reading.{task_in}
+use Rattle.sasfile_reader.specs.declared.fault.SasFault.TheVariants as sas_fault
 use Rattle.validate.specs.declared.plan.PlanFault.TheVariants as plan_fault
-use Rattle.checker.specs.Answers as checked
-use Rattle.checker.specs.declared.fault.CheckFault.TheVariants as check
-use Rattle.checker.specs.declared.verdict.Verdict.TheVariants.{Accepted, Rejected}
+use Rattle.checker_fdr.specs.Answers as checked
+use Rattle.checker_fdr.specs.declared.fault.CheckFault.TheVariants as check
+use Rattle.checker_fdr.specs.declared.verdict.Verdict.TheVariants.{Accepted, Rejected}
 use Rattle.optplan_plan_texts.specs.Plain.{plain}
 use Rattle.optplan_optimal_sas.specs.declared.fault.SasOptimalityFault.{SasOptimalityFault}
 use Rattle.optplan_optimal_sas.specs.declared.fault.SasOptimalityFault.TheVariants.{OutOfMemory, Sas, Plan, Cert}

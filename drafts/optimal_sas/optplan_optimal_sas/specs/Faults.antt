@@ -1,10 +1,10 @@
 -- Faults of readers and of the checker, as faults of a judgement.
-use Rattle.sasfile.specs.declared.fault.SasFault.{SasFault}
-use Rattle.sasfile.specs.declared.fault.SasFault.TheVariants as sas
+use Rattle.sasfile_reader.specs.declared.fault.SasFault.{SasFault}
+use Rattle.sasfile_reader.specs.declared.fault.SasFault.TheVariants as sas
 use Rattle.validate.specs.declared.plan.PlanFault.{PlanFault}
 use Rattle.validate.specs.declared.plan.PlanFault.TheVariants as plan
-use Rattle.checker.specs.declared.fault.CheckFault.{CheckFault}
-use Rattle.checker.specs.declared.fault.CheckFault.TheVariants as check
+use Rattle.checker_fdr.specs.declared.fault.CheckFault.{CheckFault}
+use Rattle.checker_fdr.specs.declared.fault.CheckFault.TheVariants as check
 use Rattle.optplan_optimal_sas.specs.declared.fault.SasOptimalityFault.{SasOptimalityFault}
 use Rattle.optplan_optimal_sas.specs.declared.fault.SasOptimalityFault.TheVariants.{OutOfMemory, Sas, Plan, Cert}
 

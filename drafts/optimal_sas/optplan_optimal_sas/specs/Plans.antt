@@ -1,7 +1,7 @@
 -- The texts of plans: of a plan that is valid at a cost, of one that is not valid, and the claim that there is none.
 use Rattle.std.specs.Prelude.{◌≡◌, ℕ, ◌⊎◌, List, codes, Result, Ok, Err}
 use Rattle.fdr.specs.Tasks.{FiniteDomainTask}
-use Rattle.sasfile.specs.SasTexts.{SpellsTask}
+use Rattle.sasfile_reader.specs.SasTexts.{SpellsTask}
 use Rattle.optplan_plan_texts.specs.Plain.{plain}
 use Rattle.optplan_optimal_sas.specs.declared.flaw.PlanFlaw.{PlanFlaw}
 use Rattle.optplan_optimal_sas.specs.Steps.{steps_in}

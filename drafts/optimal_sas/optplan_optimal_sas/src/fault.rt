@@ -5,7 +5,7 @@ ghost use Rattle.optplan_optimal_sas.specs.declared.fault.SasOptimalityFault.The
 ghost use Rattle.optplan_optimal_sas.specs.Faults.{fault_of_sas, fault_of_plan, fault_of_check};
 
 use cert_text::CertFault;
-use checker::CheckFault;
+use checker_fdr::CheckFault;
 use sasfile::SasFault;
 use std::alloc::AllocError;
 use validate::PlanFault;

@@ -1,5 +1,6 @@
 use Rattle.std.proofs.Common.{inr, ⊎_elim}
 use Rattle.clap.specs.Words.{kind_of}
+use Rattle.optplan_replies.proofs.Unput.{unput_same, unput_then}
 use Rattle.optplan_command.proofs.FileCommands.{something, validated, planning_checked, checked, judged, translated, migrated}
 use Rattle.optplan_command.proofs.command_line.run.Goals as goal
 
@@ -86,3 +87,9 @@ returns-in-Err-clause-misuses g c = λ plain misuse.
     ⊎_elim (λ memory. inr (c.show.ensures.memory memory))
     (λ among. let no_help = misuse.no_help (kind_of c.in-Err.error) among in c.show.ensures.misused no_help.0 no_help.1)
     (c.in-Err.ensures.kinds misuse.some)
+
+pub returns-in-Err-clause-unput : goal.returns-in-Err-clause-unput
+returns-in-Err-clause-unput g c = λ memory.
+    let history = g.D.Device.history in
+    unput_then (history c.args.device.now) (history c.run_words.new.device) (history c.show.new.device)
+    (unput_same (history c.args.device.now) (history c.run_words.new.device) c.in-Err.ensures.kept) (c.show.ensures.unput memory)

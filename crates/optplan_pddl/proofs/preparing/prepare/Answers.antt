@@ -1,7 +1,6 @@
 use Rattle.std.proofs.lemmas.Result.{err_from_is_err_and}
 use Rattle.pddl_laws.proofs.GoalLaws.{spelled_well}
 use Rattle.pddl_laws.proofs.KnownAtoms.{spelled_known}
-use Rattle.optplan_pddl.proofs.Reading.{read_refusal}
 use Rattle.optplan_pddl.proofs.preparing.prepare.Goals as goal
 
 pub prepare_task-requires-clause-read : goal.prepare_task-requires-clause-read
@@ -15,7 +14,7 @@ prepare_task-requires-clause-well c = spelled_well c.args.domain.now c.args.prob
 pub returns-in_err-task-clause-refused : goal.returns-in_err-task-clause-refused
 returns-in_err-task-clause-refused c =
     let p = err_from_is_err_and c.from_residual.result c.from_residual.ensures.1 in
-    rw (p.1, p.2) (read_refusal c.args.domain.now c.args.problem.now (λ task e. ⊥) _ c.in_err-task.ensures.fault)
+    rw (p.1, p.2) c.in_err-task.ensures.fault
 
 pub returns-clause-prepared : goal.returns-clause-prepared
 returns-clause-prepared c = c.prepare_task.ensures.prepared c.args.domain.now c.args.problem.now c.in_ok-task.ensures.found

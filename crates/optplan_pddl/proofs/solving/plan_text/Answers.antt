@@ -3,8 +3,8 @@ use Rattle.std.specs.Prelude.{All}
 use Rattle.fdr.specs.Tasks.{FiniteDomainTask}
 use Rattle.sasfile_writer.specs.Plans.{sas_plan_text}
 use Rattle.translate.specs.Translated.{AreOperatorsOf}
-use Rattle.optplan_plans.specs.Steps.{HasStepNames}
-use Rattle.optplan_search.proofs.PlanTexts.{plan_operators_exist}
+use Rattle.optplan_pddl.specs.Steps.{HasStepNames}
+use Rattle.optplan_solver.proofs.PlanTexts.{plan_operators_exist}
 use Rattle.optplan_pddl.proofs.Accepting.{plan_for}
 use Rattle.optplan_pddl.proofs.solving.plan_text.Goals as goal
 

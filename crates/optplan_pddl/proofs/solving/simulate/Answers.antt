@@ -1,30 +1,24 @@
 use Rattle.std.proofs.Common.{Bool, subst}
 use Rattle.std.proofs.lemmas.Result.{err_from_is_err_and}
-use Rattle.optplan_search.specs.Searches.{EndsBySeed, IsRefusedBySeed}
-use Rattle.optplan_pddl.specs.Answers.{IsPlanningAnswer}
-use Rattle.optplan_pddl.proofs.StepNames.{names_there}
-use Rattle.optplan_pddl.proofs.Answering.{found_true, answer_for, search_refused}
+use Rattle.optplan_solver.specs.Searches.{IsRefusedBySeed}
+use Rattle.optplan_pddl.specs.Prepared.{IsPrepared}
+use Rattle.optplan_pddl.proofs.Answering.{text_refused}
 use Rattle.optplan_pddl.proofs.solving.simulate.Goals as goal
 
-pub returns-in_err-found-clause-refused : goal.returns-in_err-found-clause-refused
-returns-in_err-found-clause-refused g c =
-    let p = err_from_is_err_and c.from_residual-in_err-found.result c.from_residual-in_err-found.ensures.1 in
-    rw (p.1, p.2)
-    (search_refused c.certificate.result c.args.domain.now c.args.problem.now c.in_ok-translated.field-0 c.in_ok-translated.ensures.prepared c.task.result.now c.task.ensures
-    (IsRefusedBySeed c.args.options.now c.args.seed) c.in_err-found.field-0.0 c.in_err-found.ensures.refused)
+pub simulate-requires-clause-prepared : goal.simulate-requires-clause-prepared
+simulate-requires-clause-prepared g c κs within = (c.certificate.result, (c.args.domain.now, (c.args.problem.now, c.in_ok-prepared.ensures.prepared)))
 
-pub answer_texts-requires-clause-names : goal.answer_texts-requires-clause-names
-answer_texts-requires-clause-names g c = names_there c.certificate.result c.args.domain.now c.args.problem.now c.in_ok-translated.field-0 c.in_ok-translated.ensures.prepared
-
-pub answer_texts-requires-clause-found : goal.answer_texts-requires-clause-found
-answer_texts-requires-clause-found g c =
-    found_true c.certificate.result c.args.domain.now c.args.problem.now c.in_ok-translated.field-0 c.in_ok-translated.ensures.prepared c.task.result.now c.task.ensures
-    (EndsBySeed c.args.options.now c.args.seed) c.in_ok-found.found c.in_ok-found.ensures.found
+pub returns-in_err-prepared-clause-refused : goal.returns-in_err-prepared-clause-refused
+returns-in_err-prepared-clause-refused g c =
+    let p = err_from_is_err_and c.from_residual.result c.from_residual.ensures.1 in
+    rw (p.1, p.2) (text_refused c.args.domain.now c.args.problem.now (IsRefusedBySeed c.args.options.now c.args.seed) c.in_err-prepared.field-0.0 c.in_err-prepared.ensures.refused)
 
 pub returns-clause-answer : goal.returns-clause-answer
 returns-clause-answer g c =
-    subst
-    (λ (wanted : Bool). IsPlanningAnswer wanted c.args.domain.now c.args.problem.now (EndsBySeed c.args.options.now c.args.seed) c.in_ok-answer_texts.field-0)
-    c.certificate.ensures
-    (answer_for c.certificate.result c.args.domain.now c.args.problem.now c.in_ok-translated.field-0 c.in_ok-translated.ensures.prepared c.task.result.now
-    c.task.ensures (EndsBySeed c.args.options.now c.args.seed) c.in_ok-found.found c.in_ok-answer_texts.field-0 c.in_ok-found.ensures.found c.in_ok-answer_texts.ensures)
+    c.in_ok-simulate.ensures.answer c.args.options.now.certificate c.args.domain.now c.args.problem.now
+    (subst (λ (b : Bool). IsPrepared b c.args.domain.now c.args.problem.now c.in_ok-prepared.prepared) c.certificate.ensures c.in_ok-prepared.ensures.prepared)
+
+pub returns-in_err-simulate-clause-refused : goal.returns-in_err-simulate-clause-refused
+returns-in_err-simulate-clause-refused g c =
+    let p = err_from_is_err_and c.from_residual-in_err-simulate.result c.from_residual-in_err-simulate.ensures.1 in
+    rw (p.1, p.2) (c.in_err-simulate.ensures.refused c.certificate.result c.args.domain.now c.args.problem.now c.in_ok-prepared.ensures.prepared)

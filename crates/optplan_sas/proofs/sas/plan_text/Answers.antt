@@ -1,7 +1,7 @@
 use Rattle.std.proofs.Common.{List, ℕ, ◌<◌, length, subst, sym, ap, ◌∙◌}
 use Rattle.std.specs.Prelude.{All}
 use Rattle.sasfile_writer.specs.Plans.{sas_plan_text}
-use Rattle.optplan_search.proofs.PlanTexts.{plan_operators_exist}
+use Rattle.optplan_solver.proofs.PlanTexts.{plan_operators_exist}
 use Rattle.optplan_sas.proofs.sas.plan_text.Goals as goal
 
 pub sas_plan_text-requires : goal.sas_plan_text-requires

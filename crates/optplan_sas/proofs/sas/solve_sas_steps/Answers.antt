@@ -1,14 +1,14 @@
-use Rattle.optplan_search.specs.Searches.{EndsAfter}
-use Rattle.optplan_sas.proofs.Answering.{found_true, answered}
+use Rattle.std.proofs.lemmas.Result.{err_from_is_err_and}
+use Rattle.optplan_solver.specs.Searches.{IsRefusedAfter}
+use Rattle.optplan_sas.proofs.Answering.{text_refused}
 use Rattle.optplan_sas.proofs.sas.solve_sas_steps.Goals as goal
 
-pub answer_texts-requires : goal.answer_texts-requires
-answer_texts-requires g c =
-    found_true c.args.options.now.certificate c.certificate.result c.then_some-wanted.result c.then_some-wanted.ensures c.certificate.ensures
-    c.in_ok-task.task (EndsAfter c.args.options.now c.args.steps.now c.in_ok-task.task) c.in_ok-found.found c.in_ok-found.ensures.found
+pub returns-in_err-task-clause-refused : goal.returns-in_err-task-clause-refused
+returns-in_err-task-clause-refused g c =
+    let p = err_from_is_err_and c.from_residual.result c.from_residual.ensures.1 in
+    rw (p.1, p.2) (text_refused c.args.sas.now (IsRefusedAfter c.args.options.now c.args.steps.now) c.in_err-task.field-0.0 c.in_err-task.ensures.fault)
 
-pub returns-clause-answer : goal.returns-clause-answer
-returns-clause-answer g c =
-    answered c.args.options.now.certificate c.certificate.result c.then_some-wanted.result c.then_some-wanted.ensures c.certificate.ensures
-    c.args.sas.now c.in_ok-task.task (EndsAfter c.args.options.now c.args.steps.now) c.in_ok-found.found c.in_ok-answer_texts.field-0
-    c.in_ok-task.ensures.found c.in_ok-found.ensures.found c.in_ok-answer_texts.ensures
+pub returns-in_err-after_steps-clause-refused : goal.returns-in_err-after_steps-clause-refused
+returns-in_err-after_steps-clause-refused g c =
+    let p = err_from_is_err_and c.from_residual-in_err-after_steps.result c.from_residual-in_err-after_steps.ensures.1 in
+    rw (p.1, p.2) (c.in_ok-task.task, c.in_ok-task.ensures.found, c.in_err-after_steps.ensures.refused)

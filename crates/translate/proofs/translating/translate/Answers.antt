@@ -1,5 +1,7 @@
+use Rattle.ground.proofs.SearchLaws.{fault_passed}
+use Rattle.translate.specs.Translated.{fault_of_assembly}
 use Rattle.translate.proofs.KnownAtoms.{least_known}
-use Rattle.translate.proofs.Promises.{same_plans_are, large_is_untranslated, if_ok_map, if_err_map}
+use Rattle.translate.proofs.Promises.{same_plans_are, large_is_untranslated}
 use Rattle.translate.proofs.translating.translate.Goals as goal
 
 pub translated-requires-clause-listed : goal.translated-requires-clause-listed
@@ -11,10 +13,10 @@ translated-requires-clause-listed c =
     }
 
 pub returns-clause-plans : goal.returns-clause-plans
-returns-clause-plans c = λ well. if_ok_map _ _ c.translated.result (λ t made. same_plans_are c.args.task.now _ well made) c.translated.ensures.translation
+returns-clause-plans c = λ well. same_plans_are c.args.task.now _ well c.in_ok-translated.ensures.translation
 
-pub returns-clause-fault : goal.returns-clause-fault
-returns-clause-fault c =
-    if_err_map _ _ c.translated.result
-    (λ e h. large_is_untranslated c.args.task.now c.in_ok-grounded.grounded.atoms c.in_ok-variables.variables.items e c.in_ok-variables.ensures.chosen h)
-    c.translated.ensures.large
+pub returns-in_err-translated-clause-fault : goal.returns-in_err-translated-clause-fault
+returns-in_err-translated-clause-fault c =
+    fault_passed _ (fault_of_assembly c.in_err-translated.field-0.0) _ c.from_residual-in_err-translated.ensures.1
+    (large_is_untranslated c.args.task.now c.in_ok-grounded.grounded.atoms c.in_ok-variables.variables.items c.in_err-translated.field-0.0 c.in_ok-variables.ensures.chosen
+    c.in_err-translated.ensures.large)

@@ -1,6 +1,5 @@
 use Rattle.std.proofs.Common.{◌≡◌, ◌∙◌, ℕ, Bool, List, true, ap, subst, arith, length}
-use Rattle.mutex.specs.Places.{has}
-use Rattle.mutex.specs.Tables.{IsTranspose}
+use Rattle.index_rows.specs.Numbers.{has, IsTranspose}
 use Rattle.translate_theory.specs.Variables.{PlacedVariable}
 use Rattle.translate_choice.specs.Choices.{IsNext}
 use Rattle.translate_choice.specs.Greedy.{left_of, NoneFits, IsFound, IsQueuedIfFit, HasEach}

@@ -1,6 +1,6 @@
 use Rattle.std.proofs.Common.{◌≡◌, ℕ, ◌<◌, ◌||◌, false, length, take}
 use Rattle.std.specs.Prelude.{slice_index_or}
-use Rattle.mutex.specs.Places.{has}
+use Rattle.index_rows.specs.Numbers.{has}
 use Rattle.translate_choice.proofs.flags.set.Given as goal
 
 abbrev pub invariant-loop-place : goal.invariant-loop-place

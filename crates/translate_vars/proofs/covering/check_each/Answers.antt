@@ -3,8 +3,8 @@ use Rattle.std.specs.Prelude.{slice_get}
 use Rattle.std.proofs.lemmas.Option.{slice_get_read, slice_get-map}
 use Rattle.pddl_task.proofs.Lists.{all_mem, mem_get}
 use Rattle.translate_theory.specs.Variables.{IsPlaced, variable_at, variables_at}
-use Rattle.mutex.specs.Groups.{is_constant}
-use Rattle.mutex.specs.Places.{has}
+use Rattle.mutex_index.specs.Groups.{is_constant}
+use Rattle.index_rows.specs.Numbers.{has}
 use Rattle.pddl_task.specs.Planning.{Action}
 use Rattle.translate_vars.specs.Faults.{IsFirstUncovered}
 use Rattle.translate_vars.specs.Flags.{Tell, flag_at}

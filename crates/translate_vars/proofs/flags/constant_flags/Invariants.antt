@@ -1,5 +1,5 @@
 use Rattle.std.proofs.Common.{◌≡◌, map, take}
-use Rattle.mutex.specs.Groups.{is_constant}
+use Rattle.mutex_index.specs.Groups.{is_constant}
 use Rattle.translate_vars.proofs.flags.constant_flags.Given as goal
 
 abbrev pub invariant-loop-place : goal.invariant-loop-place

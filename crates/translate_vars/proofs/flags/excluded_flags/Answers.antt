@@ -1,6 +1,6 @@
 use Rattle.std.proofs.Common.{rules, refl, arith, ◌≡◌, map}
 use Rattle.std.proofs.lemmas.Grind.{common_steps}
-use Rattle.mutex.specs.Groups.{is_excluded}
+use Rattle.mutex_index.specs.Groups.{is_excluded}
 use Rattle.translate_vars.proofs.FlagLaws.{one_more_flag, tell_map}
 use Rattle.translate_vars.proofs.flags.excluded_flags.Goals as goal
 

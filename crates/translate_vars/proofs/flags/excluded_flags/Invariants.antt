@@ -1,5 +1,5 @@
 use Rattle.std.proofs.Common.{◌≡◌, map, take}
-use Rattle.mutex.specs.Groups.{is_excluded}
+use Rattle.mutex_index.specs.Groups.{is_excluded}
 use Rattle.translate_vars.proofs.flags.excluded_flags.Given as goal
 
 abbrev pub invariant-loop-place : goal.invariant-loop-place

@@ -1,5 +1,5 @@
 use Rattle.std.proofs.Common.{◌≡◌, ℕ, ◌<◌, ◌||◌, length, take}
-use Rattle.mutex.specs.Places.{has}
+use Rattle.index_rows.specs.Numbers.{has}
 use Rattle.translate_vars.specs.Flags.{flag_at}
 use Rattle.translate_vars.proofs.flags.mark.Given as goal
 

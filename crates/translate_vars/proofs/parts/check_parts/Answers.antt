@@ -1,8 +1,8 @@
 use Rattle.std.proofs.Common.{rules, ◌≤◌, length}
 use Rattle.pddl_task.specs.Atoms.{contains}
 use Rattle.ground_theory.specs.Grounding.{IsClosedSet, actions_over}
-use Rattle.ground_bindings.specs.Search.{max_actions}
-use Rattle.ground_bindings.proofs.SearchLaws.{fault_passed}
+use Rattle.ground.specs.Search.{max_actions}
+use Rattle.ground.proofs.SearchLaws.{fault_passed}
 use Rattle.translate_theory.specs.Translations.{AreVariables}
 use Rattle.translate_theory.specs.Variables.{variables_at}
 use Rattle.translate_vars.specs.Faults.{AreAtomsOf}

@@ -1,6 +1,6 @@
 use Rattle.std.proofs.Common.{◌∙◌, eqb}
 use Rattle.std.proofs.lemmas.List.Filters.{dedup_is}
-use Rattle.mutex.proofs.SetLaws.{sorted_same}
+use Rattle.index_rows.proofs.NumberLaws.{sorted_same}
 use Rattle.translate_choice.proofs.groups_at.GroupsAt.groups_with.Goals as goal
 
 pub returns : goal.returns

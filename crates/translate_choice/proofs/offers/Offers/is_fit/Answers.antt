@@ -2,7 +2,7 @@ use Rattle.std.proofs.Common.{◌≡◌, ◌∙◌, true, arith, length, sym, re
 use Rattle.std.specs.Prelude.{nat_lt}
 use Rattle.std.proofs.lemmas.Bool.{lt-ltb, false_from_ne_true}
 use Rattle.pddl_task.specs.Atoms.{at_most_one, wants}
-use Rattle.mutex.specs.Places.{atoms_at}
+use Rattle.mutex_index.specs.Places.{atoms_at}
 use Rattle.translate_choice.specs.Greedy.{is_fit}
 use Rattle.translate_choice.proofs.PlacedLaws.{one_goal_is, fit_parts}
 use Rattle.translate_choice.proofs.offers.Offers.is_fit.Goals as goal

@@ -1,7 +1,7 @@
 use Rattle.std.proofs.Common.{◌≡◌, ◌∙◌, true, sym, ⊎_elim, eqb, take, subst, get_or}
 use Rattle.std.proofs.lemmas.Bool.{or_cases, eqb-true}
 use Rattle.std.proofs.lemmas.List.Folds.{list_any_more}
-use Rattle.mutex.specs.Places.{has}
+use Rattle.index_rows.specs.Numbers.{has}
 use Rattle.translate_choice.specs.Greedy.{IsQueuedIfFit}
 use Rattle.translate_choice.proofs.GreedyLaws.{keeps_both, queued_kept}
 use Rattle.translate_choice.proofs.offers.Offers.queue_each.Goals as goal

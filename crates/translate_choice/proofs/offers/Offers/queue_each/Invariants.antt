@@ -1,5 +1,5 @@
 use Rattle.std.proofs.Common.{◌≡◌, ℕ, true, take}
-use Rattle.mutex.specs.Places.{has}
+use Rattle.index_rows.specs.Numbers.{has}
 use Rattle.translate_choice.specs.Greedy.{IsQueuedIfFit, Keeps}
 use Rattle.translate_choice.proofs.offers.Offers.queue_each.Given as goal
 

@@ -1,6 +1,6 @@
 use Rattle.std.proofs.Common.{◌<◌, ◌-◌, ◌^◌, length, subst, arith}
 use Rattle.std.specs.Prelude.{Ok, Err}
-use Rattle.sasfile.proofs.Promises.{one_reading_is}
+use Rattle.sasfile_reader.proofs.Promises.{one_reading_is}
 use Rattle.optplan_optimal_sas.specs.Plans.{HasVerdict}
 use Rattle.optplan_optimal_sas.specs.Answers.{IsRefusal}
 use Rattle.optplan_optimal_sas.proofs.Judgements.{err_as, valid_plan, spelled_plan, no_plan}

@@ -1,5 +1,0 @@
-use Rattle.cert_laws.proofs.Promises.{whole_lines_is}
-use Rattle.cert_laws.proofs.laws.whole_lines_keep_their_fault.Goals as goal
-
-pub returns : goal.returns
-returns c = whole_lines_is

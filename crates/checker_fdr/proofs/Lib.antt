@@ -1,0 +1,4 @@
+pub mod ShortTexts
+pub mod FirstFound
+pub mod ClassRows
+pub mod OneAnswer

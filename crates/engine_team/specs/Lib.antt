@@ -1,3 +1,0 @@
-pub mod Teams
-pub mod Draining
-pub mod Asking

@@ -1,3 +1,0 @@
-pub mod ObjectLists
-pub mod SearchLaws
-pub mod SchemaLaws

@@ -1,0 +1,46 @@
+-- The reader of certificates as one that reads line by line.
+use Rattle.std.proofs.Common.{◌≡◌, ℕ, zero, suc, List, [], ◌∷◌, refl, Result, Err}
+use Rattle.cert_text.specs.declared.fault.CertFault.{CertFault}
+use Rattle.cert_text.specs.declared.fault.CertFault.TheVariants as fault
+use Rattle.cert_text.specs.Reading.{◌>>=◌, Remaining, first_of, line_at, repeated}
+use Rattle.line_laws.proofs.Readings.{Reading}
+use Rattle.line_laws.proofs.Frames.{Frame, Pairs, pure_pair, then_pair}
+
+-- the fault may be that of a line with this number
+abbrev pub IsOn : ℕ → CertFault → Type 0
+IsOn m fault.OutOfMemory = ⊥
+IsOn m fault.Header = 1 ≡ m
+IsOn m (fault.Expected n) = n ≡ m
+IsOn m (fault.Number n) = n ≡ m
+IsOn m fault.Truncated = ⊥
+IsOn m (fault.Trailing n) = ⊥
+IsOn m (fault.Order n) = n ≡ m
+IsOn m (fault.Classes n) = n ≡ m
+IsOn m fault.TooLong = ⊥
+
+abbrev pub Cert : Reading
+Cert = record {
+  Fault = CertFault;
+  Rest = Remaining;
+  number = λ r. r.number;
+  line = line_at;
+  bind = ◌>>=◌;
+  bind_ok = λ x f. refl;
+  bind_err = λ e f. refl;
+  IsOn = IsOn;
+}
+
+end_by : (n : ℕ) (ls : List (List ℕ)) (e : CertFault) → first_of n ls ≡ Err e → fault.Truncated ≡ e
+end_by n [] e is = cc
+end_by n (l ∷ []) e is = cc
+end_by n (l ∷ m ∷ ms) e is = absurd cc
+
+-- only what has no line feed behind it is no line
+pub end_is : (r : Remaining) (e : CertFault) → line_at r ≡ Err e → fault.Truncated ≡ e
+unfolding line_at
+end_is r e is = end_by r.number r.lines e is
+
+pub repeated_reads : {S : Type 0} (F : Frame Cert) (step : S → Remaining → Result (S × Remaining) CertFault) → ((s : S) → Pairs F (step s)) → (n : ℕ) (s : S) → Pairs F (repeated step n s)
+unfolding repeated
+repeated_reads F step each zero s = pure_pair F s
+repeated_reads F step each (suc n) s = then_pair F (each s) (λ t. repeated_reads F step each n t)

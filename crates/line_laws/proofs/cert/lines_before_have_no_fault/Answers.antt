@@ -1,0 +1,5 @@
+use Rattle.line_laws.proofs.CertPromises.{lines_before_is}
+use Rattle.line_laws.proofs.cert.lines_before_have_no_fault.Goals as goal
+
+pub returns : goal.returns
+returns c = lines_before_is

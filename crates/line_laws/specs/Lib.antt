@@ -1,0 +1,3 @@
+pub mod CertFaultLines
+pub mod CertRepeats
+pub mod SasFaultLines

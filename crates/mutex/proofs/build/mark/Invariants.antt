@@ -1,8 +1,0 @@
-use Rattle.std.proofs.Common.{◌≡◌, ℕ, ◌<◌, ◌||◌, false, length, take}
-use Rattle.std.specs.Prelude.{slice_index_or}
-use Rattle.mutex.specs.Places.{has}
-use Rattle.mutex.proofs.build.mark.Given as goal
-
-abbrev pub invariant-loop-place : goal.invariant-loop-place
-invariant-loop-place l =
-    (p : ℕ) → p < length l.flags → slice_index_or l.flags p false ≡ (slice_index_or l.fn.flags p false || has (take l.place-index l.places) p)

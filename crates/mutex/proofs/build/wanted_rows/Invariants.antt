@@ -1,6 +1,0 @@
-use Rattle.std.proofs.Common.{◌≡◌, true, map, take}
-use Rattle.mutex.specs.Places.{literal_places}
-use Rattle.mutex.proofs.build.wanted_rows.Given as goal
-
-abbrev pub invariant-loop-action : goal.invariant-loop-action
-invariant-loop-action l = l.rows ≡ map (λ a. literal_places l.atoms true a.precondition) (take l.action-index l.actions)

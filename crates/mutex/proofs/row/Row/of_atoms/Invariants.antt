@@ -1,6 +1,0 @@
-use Rattle.std.proofs.Common.{◌≡◌, take}
-use Rattle.mutex.specs.Places.{places_of}
-use Rattle.mutex.proofs.row.Row.of_atoms.Given as goal
-
-abbrev pub invariant-loop-atom : goal.invariant-loop-atom
-invariant-loop-atom l = l.row ≡ places_of l.atoms (take l.atom-index l.more)

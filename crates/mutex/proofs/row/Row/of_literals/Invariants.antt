@@ -1,6 +1,0 @@
-use Rattle.std.proofs.Common.{◌≡◌, take}
-use Rattle.mutex.specs.Places.{literal_places}
-use Rattle.mutex.proofs.row.Row.of_literals.Given as goal
-
-abbrev pub invariant-loop-literal : goal.invariant-loop-literal
-invariant-loop-literal l = l.row ≡ literal_places l.atoms l.sign (take l.literal-index l.literals)

@@ -1,0 +1,5 @@
+pub mod PlaceLaws
+pub mod IndexLaws
+pub mod TestLaws
+pub mod GroupLaws
+pub mod SetLaws

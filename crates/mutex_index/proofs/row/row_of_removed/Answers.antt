@@ -1,0 +1,13 @@
+use Rattle.std.proofs.Common.{◌<◌, ◌++◌, ◌∙◌, ℕ, None, Option, cond, [], ap, arith, length}
+use Rattle.std.specs.Prelude.{position}
+use Rattle.std.specs.List.{cons_option}
+use Rattle.pddl_task.specs.Atoms.{Atom, same_atom, contains}
+use Rattle.mutex_index.proofs.PlaceLaws.{filter_more}
+use Rattle.mutex_index.proofs.row.row_of_removed.Goals as goal
+
+pub loop-atom-preserved : goal.loop-atom-preserved
+loop-atom-preserved c =
+    let within : c.loop-atom.atom-index < length c.args.deletes.now = omega arith in
+    let place = (λ (p : Atom). cond (contains c.args.adds.now p) None (position (same_atom p) c.args.atoms.now)) in
+    filter_more place c.args.deletes.now c.loop-atom.atom-index c.atom-item.result c.loop-atom.row c.push_some.new.row within c.loop-atom.invariant
+    (c.in_ok-push_some.ensures ∙ ap (λ (o : Option ℕ). c.loop-atom.row ++ cons_option o []) (c.place_of_removed.ensures ∙ ap place c.atom-item.is))

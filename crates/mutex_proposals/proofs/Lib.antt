@@ -1,3 +1,0 @@
-pub mod CandidateLaws
-pub mod InstanceLaws
-pub mod ProposalLaws

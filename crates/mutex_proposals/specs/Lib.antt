@@ -1,4 +1,0 @@
-pub mod Candidates
-pub mod Examples
-pub mod Proposals
-pub mod Steps

@@ -1,2 +1,0 @@
-pub mod NamedAtoms
-pub mod KindLaws

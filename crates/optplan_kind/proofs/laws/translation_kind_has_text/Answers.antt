@@ -1,5 +1,0 @@
-use Rattle.optplan_kind.proofs.KindLaws.{kind_lawful}
-use Rattle.optplan_kind.proofs.laws.translation_kind_has_text.Goals as goal
-
-pub returns : goal.returns
-returns c = kind_lawful

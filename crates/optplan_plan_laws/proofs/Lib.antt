@@ -1,2 +1,0 @@
-pub mod NamedWords
-pub mod Promises

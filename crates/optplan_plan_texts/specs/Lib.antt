@@ -1,0 +1,5 @@
+pub mod Bytes
+pub mod Decimals
+pub mod Lines
+pub mod Plain
+pub mod Passes

@@ -1,5 +1,0 @@
-use Rattle.optplan_plans.proofs.NamedTexts.{named_text_is}
-use Rattle.optplan_plans.proofs.laws.named_plan_is_read.Goals as goal
-
-pub returns : goal.returns
-returns c = named_text_is

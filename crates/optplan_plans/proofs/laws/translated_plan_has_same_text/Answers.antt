@@ -1,5 +1,0 @@
-use Rattle.optplan_plans.proofs.SameTexts.{same_text}
-use Rattle.optplan_plans.proofs.laws.translated_plan_has_same_text.Goals as goal
-
-pub returns : goal.returns
-returns c = λ task t actions plan cost made pairs. same_text task t made actions plan cost pairs

@@ -1,6 +1,0 @@
-use Rattle.std.proofs.Common.{◌≡◌, map, take}
-use Rattle.optplan_plans.specs.Steps.{operator_step}
-use Rattle.optplan_plans.proofs.steps.named_steps.Given as goal
-
-abbrev pub invariant-loop-operator : goal.invariant-loop-operator
-invariant-loop-operator l = l.steps.items ≡ map (operator_step l.fn.translated) (take l.operator-index l.plan)

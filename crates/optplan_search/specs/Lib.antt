@@ -1,6 +1,0 @@
-pub mod SearchEnds
-pub mod Searches
-pub mod Findings
-pub mod Stages
-pub mod Schedules
-pub mod Reduced

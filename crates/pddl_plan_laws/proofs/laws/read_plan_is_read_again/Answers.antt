@@ -1,5 +1,0 @@
-use Rattle.pddl_plan_laws.proofs.ReadPlans.{read_again_is}
-use Rattle.pddl_plan_laws.proofs.laws.read_plan_is_read_again.Goals as goal
-
-pub returns : goal.returns
-returns c = read_again_is

@@ -1,8 +1,0 @@
-use Rattle.std.proofs.Common.{◌≡◌, ◌-◌}
-use Rattle.sasfile.specs.Remains.{remaining}
-use Rattle.sasfile.specs.Reading.{repeated, group_step}
-use Rattle.sasfile.proofs.facts.counted_groups.Given as goal
-
-abbrev pub invariant-loop : goal.invariant-loop
-invariant-loop l =
-    repeated (group_step l.ranges) (l.count - l.counter) tt (remaining l.rest) ≡ repeated (group_step l.ranges) l.count tt (remaining l.lines)

@@ -1,8 +1,0 @@
-use Rattle.std.proofs.Common.{◌≡◌, drop, []}
-use Rattle.sasfile.specs.Remains.{remaining}
-use Rattle.sasfile.specs.Reading.{values_at}
-use Rattle.sasfile.proofs.facts.values.Given as goal
-
-abbrev pub invariant-loop-range : goal.invariant-loop-range
-invariant-loop-range l =
-    values_at (drop l.range-index l.ranges) l.values.items (remaining l.rest) ≡ values_at l.ranges [] (remaining l.lines)

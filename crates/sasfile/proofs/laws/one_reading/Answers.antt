@@ -1,5 +1,0 @@
-use Rattle.sasfile.proofs.Promises.{one_reading_is}
-use Rattle.sasfile.proofs.laws.one_reading.Goals as goal
-
-pub returns : goal.returns
-returns c = one_reading_is

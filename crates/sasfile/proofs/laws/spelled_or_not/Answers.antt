@@ -1,5 +1,0 @@
-use Rattle.sasfile.proofs.Promises.{spelled_or_not_is}
-use Rattle.sasfile.proofs.laws.spelled_or_not.Goals as goal
-
-pub returns : goal.returns
-returns c = spelled_or_not_is

@@ -1,5 +1,0 @@
-use Rattle.sasfile_laws.proofs.Promises.{lines_before_is}
-use Rattle.sasfile_laws.proofs.laws.lines_before_have_no_fault.Goals as goal
-
-pub returns : goal.returns
-returns c = lines_before_is

@@ -1,6 +1,0 @@
-use Rattle.std.proofs.Common.{ℕ, ◌<◌, slice_index}
-use Rattle.fdr.specs.Tasks.{ranges}
-use Rattle.test_tasks.proofs.is_state_of.Given as goal
-
-abbrev pub invariant-loop-variable : goal.invariant-loop-variable
-invariant-loop-variable l = (v : ℕ) → v < l.variable → slice_index l.state v < slice_index (ranges l.task) v

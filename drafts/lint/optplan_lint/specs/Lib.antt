@@ -1,0 +1,11 @@
+pub mod Warnings
+pub mod TypedWords
+pub mod Signatures
+pub mod Mentions
+pub mod Arguments
+pub mod Unused
+pub mod UsedNames
+pub mod TrueGoals
+pub mod Titles
+pub mod Lint
+pub mod Fitting
