@@ -1,17 +1,16 @@
 //! Numbered messages over a link with room for one, from one thread to another.
 
 ghost use Rattle.std.specs.Prelude.{◌≤◌, ◌^◌, IfOk};
+ghost use Rattle.links.specs.Ends.{AreEnds, SameIn, SameOut};
 ghost use Rattle.links.specs.Ranks.{HasSmallRank};
 
-use links::{In, Message, Out, Parent, link};
+use links::{In, Message, Out, Parent, link, match_up};
 use openlist::Rank;
 use packed::{Bits, Layout, StateForm};
-use std::alloc::{AllocError, Global};
-use std::process::Abort;
-use std::sync::Wait;
+use std::alloc::Global;
 use std::test::Fail;
 use std::thread;
-use std::thread::{Scope, Threads};
+use std::thread::Threads;
 use testing_tasks::states;
 
 /// The number of messages.
@@ -44,6 +43,7 @@ const LOOKS: u64 = 1_000_000_000;
 /// Sends a message as soon as there is room for it. Returns whether there was.
 fn send(sender: &mut Out<Bits<1>>, message: Message<Bits<1>>) -> bool
     requires { HasSmallRank message }
+    ensures { SameOut sender.old sender.new }
 {
     for _ in 0..LOOKS {
         if sender.has_room() {
@@ -54,11 +54,15 @@ fn send(sender: &mut Out<Bits<1>>, message: Message<Bits<1>>) -> bool
     false
 }
 
-/// Sends a message for each number from 0 on, by copies of one. Returns the number of messages sent.
-fn send_numbers(alloc: Global, mut sender: Out<Bits<1>>, first: Message<Bits<1>>) -> u64 {
+/// Sends a message for each number from 0 on, by copies of one. Returns the sending end, and the number of messages
+/// sent.
+fn send_numbers(alloc: Global, sender: Out<Bits<1>>, first: Message<Bits<1>>) -> (Out<Bits<1>>, u64)
+    ensures { SameOut sender result.0 }
+{
+    let mut sender = sender;
     for cost in 0..MESSAGES {
         let Ok(state) = first.state.copy(alloc) else {
-            return cost;
+            return (sender, cost);
         };
         let message = Message {
             state,
@@ -66,15 +70,18 @@ fn send_numbers(alloc: Global, mut sender: Out<Bits<1>>, first: Message<Bits<1>>
             parent: first.parent,
         };
         if !send(&mut sender, message) {
-            return cost;
+            return (sender, cost);
         }
     }
-    MESSAGES
+    (sender, MESSAGES)
 }
 
-/// Takes at most `MESSAGES` messages, up to the first that is not in the order of sending, and returns how many were in
-/// order.
-fn take_numbers(receiver: &mut In<Bits<1>>) -> u64 {
+/// Takes at most `MESSAGES` messages, up to the first that is not in the order of sending. Returns the receiving end,
+/// and how many were in order.
+fn take_numbers(receiver: In<Bits<1>>) -> (In<Bits<1>>, u64)
+    ensures { SameIn receiver result.0 }
+{
+    let mut receiver = receiver;
     let mut taken = 0u64;
     for _ in 0..LOOKS {
         if taken == MESSAGES {
@@ -86,50 +93,41 @@ fn take_numbers(receiver: &mut In<Bits<1>>) -> u64 {
             None => thread::yield_now(),
         }
     }
-    taken
+    (receiver, taken)
 }
 
-/// Sends the messages in a thread of the scope, and takes them in the caller's. Returns the numbers of messages sent,
-/// and of those that arrived in order.
-fn pass_in<'s, E: 's, R: Threads + Wait + Sync>(
-    rt: &'s R,
-    alloc: Global,
-    scope: &'s Scope<'s, E>,
-    sender: Out<Bits<1>>,
-    receiver: &mut In<Bits<1>>,
-    first: Message<Bits<1>>,
-) -> Result<(u64, u64), Fail> {
-    let begun = scope.spawn(move || -> u64 { send_numbers(alloc, sender, first) });
-    let Ok(handle) = begun else {
-        return Err(Fail::from("a thread"));
-    };
-    let taken = take_numbers(receiver);
-    Ok((handle.join(rt), taken))
-}
-
-/// Runs `pass_in` in a scope of its own.
-fn pass<R: Threads + Wait + Sync>(
+/// Sends the messages in a thread of its own, and takes them in the caller's. Returns both ends, with the numbers of
+/// messages sent, and of those that arrived in order.
+fn pass<R: Threads>(
     rt: &R,
     alloc: Global,
     sender: Out<Bits<1>>,
-    receiver: &mut In<Bits<1>>,
+    receiver: In<Bits<1>>,
     first: Message<Bits<1>>,
-) -> Result<(u64, u64), Fail> {
-    thread::scope(
-        thread::scope_env(),
+) -> ((Out<Bits<1>>, u64), (In<Bits<1>>, u64))
+    requires { AreEnds sender receiver }
+    ensures { AreEnds result.0.0 result.1.0 }
+{
+    thread::join(
         rt,
-        move |scope| -> Result<(u64, u64), Fail> {
-            pass_in(rt, alloc, scope, sender, receiver, first)
-        },
+        move || -> (Out<Bits<1>>, u64)
+            ensures { SameOut sender result.0 }
+        { send_numbers(alloc, sender, first) },
+        move || -> (In<Bits<1>>, u64)
+            ensures { SameIn receiver result.0 }
+        { take_numbers(receiver) },
     )
 }
 
 #[test]
 fn a_hundred_thousand_messages(rt: HostRuntime) -> Result<(), Fail> {
-    let (sender, mut receiver) = link(rt.alloc(), 1)?;
+    let (sender, receiver) = link(rt.alloc(), 1)?;
     let first = message(rt.alloc(), 0)?;
-    let passed = pass(&rt, rt.alloc(), sender, &mut receiver, first)?;
-    assert_eq!(rt; passed, (MESSAGES, MESSAGES));
+    let (sending, receiving) = pass(&rt, rt.alloc(), sender, receiver, first);
+    let (mut sender, sent) = sending;
+    let (mut receiver, taken) = receiving;
+    assert_eq!(rt; (sent, taken), (MESSAGES, MESSAGES));
+    assert_eq!(rt; match_up(&mut sender, &mut receiver), 0);
     assert!(rt; receiver.pop().is_none());
     Ok(())
 }

@@ -43,7 +43,7 @@ fn distance_at<A: FactoredAbstraction>(
 
 /// The cost of a cheapest abstract plan from the initial state, in the abstraction by the mapping. `None` if there is
 /// none.
-pub fn initial_value(
+pub(crate) fn initial_value(
     alloc: Global,
     task: &FdrTask,
     mapping: &Mapping,
@@ -63,7 +63,7 @@ pub fn initial_value(
 }
 
 /// The mapping that keeps each variable.
-pub fn whole(alloc: Global, task: &FdrTask) -> Result<Mapping, AllocError> {
+pub(crate) fn whole(alloc: Global, task: &FdrTask) -> Result<Mapping, AllocError> {
     task.recall(); // there are fewer than 2^32 variables
     let mut pattern = Vec::new(alloc);
     for variable in 0..task.variable_count() {
@@ -73,7 +73,7 @@ pub fn whole(alloc: Global, task: &FdrTask) -> Result<Mapping, AllocError> {
 }
 
 /// The number of abstract states by a mapping.
-pub fn size_of(task: &FdrTask, mapping: &Mapping) -> usize {
+pub(crate) fn size_of(task: &FdrTask, mapping: &Mapping) -> usize {
     let mut size: usize = 1;
     match mapping {
         Mapping::Pattern(pattern) => {
@@ -93,7 +93,7 @@ pub fn size_of(task: &FdrTask, mapping: &Mapping) -> usize {
 }
 
 /// The number of abstract states by a mapping, and 1 without one.
-pub fn size_by(task: &FdrTask, mapping: &Option<Mapping>) -> usize {
+pub(crate) fn size_by(task: &FdrTask, mapping: &Option<Mapping>) -> usize {
     match mapping {
         None => 1,
         Some(mapping) => size_of(task, mapping),

@@ -48,7 +48,10 @@ fn operators(
 }
 
 /// A random task of 5 variables with 2 to 4 values.
-pub fn random_task(alloc: Global, words: &mut SplitMix64) -> Result<Option<FdrTask>, AllocError> {
+pub(crate) fn random_task(
+    alloc: Global,
+    words: &mut SplitMix64,
+) -> Result<Option<FdrTask>, AllocError> {
     let mut ranges = Vec::new(alloc);
     let mut initial = Vec::new(alloc);
     for _ in 0..5 {

@@ -15,7 +15,7 @@ pub const LARGE: Limits = Limits {
 };
 
 /// Makes run `number`, with at most 2^24 abstract states and at least 1.
-pub fn run(
+pub(crate) fn run(
     alloc: Global,
     task: &FdrTask,
     kind: Kind,

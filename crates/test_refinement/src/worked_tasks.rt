@@ -47,7 +47,7 @@ fn road_operators(alloc: Global, towns: u32) -> Result<Vec<Operator>, AllocError
 }
 
 /// A road on which the truck is in the last town and the package in the first, and is wanted in the last.
-pub fn road(alloc: Global, towns: u32) -> Result<Option<FdrTask>, AllocError> {
+pub(crate) fn road(alloc: Global, towns: u32) -> Result<Option<FdrTask>, AllocError> {
     let last = towns.saturating_sub(1);
     let ranges = [towns as usize, towns as usize + 1];
     let operators = road_operators(alloc, towns)?;
@@ -148,7 +148,7 @@ fn a_goal_that_no_operator_reaches(rt: HostRuntime) -> Result<(), Fail> {
 }
 
 /// This many operators with the same precondition and effect.
-pub fn same_operators(alloc: Global, count: usize) -> Result<Vec<Operator>, AllocError> {
+pub(crate) fn same_operators(alloc: Global, count: usize) -> Result<Vec<Operator>, AllocError> {
     let mut operators = Vec::new(alloc);
     for _ in 0..count {
         operators.push(operator(alloc, &[fact(0, 0)], &[fact(0, 1)])?)?;
@@ -171,7 +171,7 @@ fn many_operators_are_one_group(rt: HostRuntime) -> Result<(), Fail> {
 }
 
 /// A task of this many variables with 3 values, each of which is to change from 0 to 2 by way of 1.
-pub fn counters(alloc: Global, count: usize) -> Result<Option<FdrTask>, AllocError> {
+pub(crate) fn counters(alloc: Global, count: usize) -> Result<Option<FdrTask>, AllocError> {
     let mut goal: Vec<Fact> = Vec::new(alloc);
     let mut operators = Vec::new(alloc);
     for variable in 0..count {
