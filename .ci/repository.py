@@ -62,16 +62,16 @@ class Repository:
     def state(self, name):
         """Returns a hash over all sources on which the answers of a crate's edits depend: the crate, and what crates
         above can cite of those below it. Comments, blank lines and the proofs of single functions below do not
-        count."""
+        count, nor does it by which crates those below are used."""
         total = hashlib.sha256()
-        for it in self.below(name):
+        for it in sorted(self.below(name)):
             total.update(self.sum_of(it, True))
         total.update(self.sum_of(name, False))
         return total.hexdigest()[:32]
 
     @functools.lru_cache(maxsize=None)
     def sum_of(self, name, is_below):
-        total = hashlib.sha256(self.lines[name].encode())
+        total = hashlib.sha256(name.encode())
         for path in sorted(self.files(name, is_below)):
             total.update(repr((path, text_of(f"{self.folder(name)}/{path}"))).encode())
         return total.digest()

@@ -1,11 +1,6 @@
-pub mod Reports
-pub mod Validations
-pub mod Checks
-pub mod PlanningChecks
 pub mod Translations
 pub mod Migrations
-pub mod FileCommands
-pub mod PlainWords
 pub mod Operands
 pub mod Refusals
 pub mod Requests
+pub mod PlainRequests

@@ -12,9 +12,9 @@ use Rattle.clap.proofs.WalkLemmas.{first_value-rows}
 use Rattle.optplan_device.specs.Events.{Event}
 use Rattle.optplan_replies.specs.declared.status.Status.{Status}
 use Rattle.optplan_optimal.specs.Running.{JudgesOptimality}
-use Rattle.optplan_command.specs.Validation.{Validates}
-use Rattle.optplan_command.specs.Checking.{Checks}
-use Rattle.optplan_command.specs.PlanningChecking.{ChecksPlanning}
+use Rattle.optplan_verdicts.specs.Validation.{Validates}
+use Rattle.optplan_verdicts.specs.SasChecking.{ChecksSas}
+use Rattle.optplan_verdicts.specs.Checking.{Checks}
 use Rattle.optplan_command.specs.Translating.{Translates}
 use Rattle.optplan_command.specs.Migrating.{Migrates}
 use Rattle.optplan_command.specs.SolveWords.{HasRefusedValue, SolvesByWords, SolvesSasByWords, operand}
@@ -102,9 +102,9 @@ module _ (name : List ℕ) (value : List ℕ → Option (List ℕ)) (old new : L
   }
   does_files (Check domain problem cert) (is, d, p, c) done = record {
     validates = λ e. absurd (apart (codes "check") (codes "validate") (λ m. omega (arith, m)) (sym is ∙ e));
-    checks = λ e. subst (λ x. ChecksPlanning old new x (operand value (codes "PROBLEM")) (operand value (codes "CERT")) status) d
-        (subst (λ x. ChecksPlanning old new domain.now x (operand value (codes "CERT")) status) p
-        (subst (λ x. ChecksPlanning old new domain.now problem.now x status) c done));
+    checks = λ e. subst (λ x. Checks old new x (operand value (codes "PROBLEM")) (operand value (codes "CERT")) status) d
+        (subst (λ x. Checks old new domain.now x (operand value (codes "CERT")) status) p
+        (subst (λ x. Checks old new domain.now problem.now x status) c done));
     checks_sas = λ e. absurd (apart (codes "check") (codes "check-sas") (λ m. omega (arith, m)) (sym is ∙ e));
     judges = λ e. absurd (apart (codes "check") (codes "optimal") (λ m. omega (arith, m)) (sym is ∙ e));
     translates = λ e. absurd (apart (codes "check") (codes "translate") (λ m. omega (arith, m)) (sym is ∙ e));
@@ -115,7 +115,7 @@ module _ (name : List ℕ) (value : List ℕ → Option (List ℕ)) (old new : L
   does_files (CheckSas sas cert) (is, s, c) done = record {
     validates = λ e. absurd (apart (codes "check-sas") (codes "validate") (λ m. omega (arith, m)) (sym is ∙ e));
     checks = λ e. absurd (apart (codes "check-sas") (codes "check") (λ m. omega (arith, m)) (sym is ∙ e));
-    checks_sas = λ e. subst (λ x. Checks old new x (operand value (codes "CERT")) status) s (subst (λ x. Checks old new sas.now x status) c done);
+    checks_sas = λ e. subst (λ x. ChecksSas old new x (operand value (codes "CERT")) status) s (subst (λ x. ChecksSas old new sas.now x status) c done);
     judges = λ e. absurd (apart (codes "check-sas") (codes "optimal") (λ m. omega (arith, m)) (sym is ∙ e));
     translates = λ e. absurd (apart (codes "check-sas") (codes "translate") (λ m. omega (arith, m)) (sym is ∙ e));
     migrates = λ e. absurd (apart (codes "check-sas") (codes "migrate-cert") (λ m. omega (arith, m)) (sym is ∙ e));

@@ -1,7 +1,3 @@
-pub mod Answers
-pub mod Validation
-pub mod Checking
-pub mod PlanningChecking
 pub mod Translating
 pub mod Migrating
 pub mod Options

@@ -8,9 +8,9 @@ use Rattle.clap.specs.declared.error.kind.ErrorKind.TheVariants.{DisplayHelp, Di
 use Rattle.optplan_device.specs.Events.{Event}
 use Rattle.optplan_replies.specs.declared.status.Status.{Status}
 use Rattle.optplan_optimal.specs.Running.{JudgesOptimality}
-use Rattle.optplan_command.specs.Validation.{Validates}
-use Rattle.optplan_command.specs.Checking.{Checks}
-use Rattle.optplan_command.specs.PlanningChecking.{ChecksPlanning}
+use Rattle.optplan_verdicts.specs.Validation.{Validates}
+use Rattle.optplan_verdicts.specs.SasChecking.{ChecksSas}
+use Rattle.optplan_verdicts.specs.Checking.{Checks}
 use Rattle.optplan_command.specs.Translating.{Translates}
 use Rattle.optplan_command.specs.Migrating.{Migrates}
 use Rattle.optplan_command.specs.SolveWords.{HasRefusedValue, SolvesByWords, SolvesSasByWords, operand}
@@ -22,8 +22,8 @@ value_in rows name = first_of name rows
 -- the command of this name is run, with these values of its operands and options
 pub record DoesRequest (name : List ℕ) (value : List ℕ → Option (List ℕ)) (old new : List Event) (status : Status) : Type 0 where
   pub validates : name ≡ codes "validate" → Validates old new (operand value (codes "DOMAIN")) (operand value (codes "PROBLEM")) (operand value (codes "PLAN")) status
-  pub checks : name ≡ codes "check" → ChecksPlanning old new (operand value (codes "DOMAIN")) (operand value (codes "PROBLEM")) (operand value (codes "CERT")) status
-  pub checks_sas : name ≡ codes "check-sas" → Checks old new (operand value (codes "SAS")) (operand value (codes "CERT")) status
+  pub checks : name ≡ codes "check" → Checks old new (operand value (codes "DOMAIN")) (operand value (codes "PROBLEM")) (operand value (codes "CERT")) status
+  pub checks_sas : name ≡ codes "check-sas" → ChecksSas old new (operand value (codes "SAS")) (operand value (codes "CERT")) status
   pub judges : name ≡ codes "optimal" → JudgesOptimality old new (operand value (codes "DOMAIN")) (operand value (codes "PROBLEM")) (operand value (codes "PLAN")) (operand value (codes "CERT")) status
   pub translates : name ≡ codes "translate" → Translates old new (operand value (codes "DOMAIN")) (operand value (codes "PROBLEM")) status
   pub migrates : name ≡ codes "migrate-cert" → Migrates old new (operand value (codes "CERT")) status

@@ -10,30 +10,26 @@ ghost use Rattle.optplan_words.specs.Commands.{program};
 ghost use Rattle.optplan_device.specs.Events.{Event};
 ghost use Rattle.optplan_replies.specs.Runs.{IsUnput};
 ghost use Rattle.optplan_optimal.specs.Running.{AskForOptimality, JudgesOptimality};
-ghost use Rattle.optplan_command.specs.Validation.{AskForValidation, Validates};
-ghost use Rattle.optplan_command.specs.Checking.{AskForCheck, Checks};
-ghost use Rattle.optplan_command.specs.PlanningChecking.{AskForPlanningCheck, ChecksPlanning};
+ghost use Rattle.optplan_verdicts.specs.Validation.{AskForValidation, Validates};
+ghost use Rattle.optplan_verdicts.specs.SasChecking.{AskForSasCheck, ChecksSas};
+ghost use Rattle.optplan_verdicts.specs.Checking.{AskForCheck, Checks};
 ghost use Rattle.optplan_command.specs.Translating.{AskForTranslation, Translates};
 ghost use Rattle.optplan_command.specs.Migrating.{AskForMigration, Migrates};
-ghost use Rattle.optplan_command.specs.FileCommands.{IsNotPlain};
 ghost use Rattle.optplan_command.specs.Requests.{DoesRequest, IsMisuse, IsRefusedRequest, value_in};
 
-use crate::file_command::{plain_command, run_files};
+use crate::file_command::run_files;
 use crate::file_words::file_command;
 use crate::solve_words::{solve_by_words, solving_command};
 use clap::Error;
 use clap::error::ErrorKind;
 use optplan_device::Device;
-use optplan_replies::{Fault, Status, put_text, report};
+use optplan_replies::{Fault, Runtime, Status, put_text, report};
 use optplan_words::requested;
 use std::alloc::Global;
-use std::sync::Wait;
-use std::thread::Threads;
-use std::time::Clock;
 
 /// Runs the command that `clap` finds in the arguments, and returns the exit status. Fails with the error in the
 /// arguments, with help or the version if they are requested, or if allocation fails.
-fn run_words<D: Device, R: Threads + Wait + Clock + Eprint + Sync + AllocGlobal>(
+fn run_words<D: Device, R: Runtime>(
     rt: &R,
     words: &[String],
     device: &mut D,
@@ -89,22 +85,18 @@ fn show<D: Device>(alloc: Global, device: &mut D, error: &Error) -> Status
 ///
 /// All I/O is through the device. If a report on standard error fails, the exit status is unchanged.
 ///
-/// Plain arguments are a command that works on files alone and its files, none of which begins with `-`. The meaning of
-/// other arguments, with operands and options in any order, is that of the definitions of `clap`.
-pub fn run<D: Device, R: Threads + Wait + Clock + Eprint + Sync + AllocGlobal>(
-    words: &[String],
-    device: &mut D,
-    rt: &R,
-) -> Status
+/// The meaning of the arguments, with operands and options in any order, is that of the definitions of `clap`. For a
+/// command that works on files alone, none of which begins with `-`, the contract also states it without them.
+pub fn run<D: Device, R: Runtime>(words: &[String], device: &mut D, rt: &R) -> Status
     ensures validates { (h : List Event) (domain problem plan : List ℕ) → D.history device.old ≡ Some h → AskForValidation (texts_of words.now) domain problem plan →
         D.failure_count device.new ≡ D.failure_count device.old → result ≢ Status.OutOfMemory →
         (new : List Event) × (D.history device.new ≡ Some new) × Validates h new domain problem plan result }
-    ensures checks { (h : List Event) (sas cert : List ℕ) → D.history device.old ≡ Some h → AskForCheck (texts_of words.now) sas cert →
+    ensures checks_sas { (h : List Event) (sas cert : List ℕ) → D.history device.old ≡ Some h → AskForSasCheck (texts_of words.now) sas cert →
         D.failure_count device.new ≡ D.failure_count device.old → result ≢ Status.OutOfMemory →
-        (new : List Event) × (D.history device.new ≡ Some new) × Checks h new sas cert result }
-    ensures checks_planning { (h : List Event) (domain problem cert : List ℕ) → D.history device.old ≡ Some h →
-        AskForPlanningCheck (texts_of words.now) domain problem cert → D.failure_count device.new ≡ D.failure_count device.old → result ≢ Status.OutOfMemory →
-        (new : List Event) × (D.history device.new ≡ Some new) × ChecksPlanning h new domain problem cert result }
+        (new : List Event) × (D.history device.new ≡ Some new) × ChecksSas h new sas cert result }
+    ensures checks { (h : List Event) (domain problem cert : List ℕ) → D.history device.old ≡ Some h →
+        AskForCheck (texts_of words.now) domain problem cert → D.failure_count device.new ≡ D.failure_count device.old → result ≢ Status.OutOfMemory →
+        (new : List Event) × (D.history device.new ≡ Some new) × Checks h new domain problem cert result }
     ensures judges { (h : List Event) (domain problem plan cert : List ℕ) → D.history device.old ≡ Some h →
         AskForOptimality (texts_of words.now) domain problem plan cert → D.failure_count device.new ≡ D.failure_count device.old → result ≢ Status.OutOfMemory →
         (new : List Event) × (D.history device.new ≡ Some new) × JudgesOptimality h new domain problem plan cert result }
@@ -114,19 +106,15 @@ pub fn run<D: Device, R: Threads + Wait + Clock + Eprint + Sync + AllocGlobal>(
     ensures migrates { (h : List Event) (cert : List ℕ) → D.history device.old ≡ Some h → AskForMigration (texts_of words.now) cert →
         D.failure_count device.new ≡ D.failure_count device.old → result ≢ Status.OutOfMemory →
         (new : List Event) × (D.history device.new ≡ Some new) × Migrates h new cert result }
-    ensures requests { (h : List Event) (name : List ℕ) (rows : List Row) → D.history device.old ≡ Some h → IsNotPlain (texts_of words.now) →
+    ensures requests { (h : List Event) (name : List ℕ) (rows : List Row) → D.history device.old ≡ Some h →
         fault_of program (texts_of words.now) ≡ [] → subcommand_of program (texts_of words.now) ≡ Some (name, rows) →
         D.failure_count device.new ≡ D.failure_count device.old → result ≢ Status.OutOfMemory →
         ((new : List Event) × (D.history device.new ≡ Some new) × DoesRequest name (value_in rows) h new result)
         ⊎ ((result ≡ Status.Misused) × IsRefusedRequest name (value_in rows)) }
-    ensures misuses { IsNotPlain (texts_of words.now) → IsMisuse (fault_of program (texts_of words.now)) →
-        (result ≡ Status.Misused) ⊎ (result ≡ Status.OutOfMemory) }
+    ensures misuses { IsMisuse (fault_of program (texts_of words.now)) → (result ≡ Status.Misused) ⊎ (result ≡ Status.OutOfMemory) }
     ensures device_failed { result ≡ Status.DeviceFailed → D.failure_count device.old + 1 ≤ D.failure_count device.new }
     ensures unput { result ≡ Status.OutOfMemory → IsUnput (D.history device.old) (D.history device.new) }
 {
-    if let Some(command) = plain_command(words) {
-        return run_files(rt, device, command);
-    }
     match run_words(rt, words, device) {
         Ok(status) => status,
         Err(error) => show(rt.alloc(), device, &error),

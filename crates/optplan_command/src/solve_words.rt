@@ -15,14 +15,11 @@ ghost use Rattle.optplan_command.specs.SolvingCommands.{name_of, Solved};
 use crate::options::{RefusedValue, number_for, own_file, reduction_for, tables_for, ties_for};
 use clap::{ArgMatches, Command, Error};
 use optplan_device::Device;
-use optplan_replies::Status;
+use optplan_replies::{Runtime, Status};
 use optplan_solve::{Schedule, Settings, Watch, run_solve, run_solve_sas};
 use optplan_solver::{MAX_RING, MAX_TABLE, MAX_WORKERS, Options};
 use optplan_words::{solve_command, solve_sas_command};
 use std::alloc::{AllocError, Global};
-use std::sync::Wait;
-use std::thread::Threads;
-use std::time::Clock;
 
 /// The greatest number of most options, 2^63 - 1.
 const MAX_NUMBER: u64 = 9_223_372_036_854_775_807;
@@ -129,7 +126,7 @@ impl SolvingCommand {
 
 /// Solves a task as the arguments of this command request, and returns the exit status. Fails with the command's error
 /// for the first value that is refused, or if allocation fails.
-pub(crate) fn solve_by_words<D: Device, R: Threads + Wait + Clock + Eprint + Sync + AllocGlobal>(
+pub(crate) fn solve_by_words<D: Device, R: Runtime>(
     rt: &R,
     device: &mut D,
     command: SolvingCommand,

@@ -3,28 +3,21 @@
 ghost use Rattle.std.specs.Prelude.{◌≡◌, ◌≢◌, ◌≤◌, ◌+◌, ◌++◌, ℕ, List, Some, IfOk, IfErr, OnOk, codes, string_bytes};
 ghost use Rattle.optplan_device.specs.Events.{Event};
 ghost use Rattle.optplan_plan_texts.specs.Plain.{plain};
-ghost use Rattle.optplan_replies.specs.Runs.{IsDeviceFault, IsUnput};
+ghost use Rattle.optplan_replies.specs.Runs.{IsAnswered, IsUnput};
 ghost use Rattle.optplan_optimal.specs.Lines.{verdict_text};
 ghost use Rattle.optplan_optimal.specs.Answers.{IsRefusal};
-ghost use Rattle.optplan_optimal.specs.Running.{IsOptimalityReply, IsOptimalityReport, reads, JudgesOptimality};
+ghost use Rattle.optplan_optimal.specs.Running.{IsOptimalityReply, IsOptimalityReport, JudgesOptimality};
 
 use crate::fault::OptimalityFault;
 use crate::judging::judge_optimality;
 use crate::verdict::OptimalityVerdict;
 use optplan_device::Device;
 use optplan_plan_texts::to_plain;
-use optplan_replies::{Fault, FileWord, Status, read_file, reply, report, task_fault};
-use std::alloc::{AllocError, Global};
+use optplan_replies::{
+    Fault, FileWord, Judge, Status, judge_files, line_of, read_file, task_fault,
+};
+use std::alloc::Global;
 use std::thread::Threads;
-
-/// Returns the verdict's line, with its line feed.
-fn line_of(alloc: Global, verdict: &OptimalityVerdict) -> Result<String, AllocError>
-    ensures { IfOk result (λ line. string_bytes line ≡ verdict_text verdict.now ++ codes "\n") }
-{
-    let mut line = format!(in alloc; "{verdict}")?;
-    line.push('\n')?;
-    Ok(line)
-}
 
 /// Converts the fault of the texts into the program's, with the word that it prints.
 #[tactic(auto, using(crate::proofs::Runs::report_of_task))]
@@ -69,11 +62,11 @@ fn answer_of<R: AllocGlobal + Threads + Sync>(
 
 /// The texts of a domain, a problem, a plan and a certificate.
 #[derive(Drop)]
-struct Texts {
-    domain: Vec<u8>,
-    problem: Vec<u8>,
-    plan: Vec<u8>,
-    cert: Vec<u8>,
+pub struct Texts {
+    pub domain: Vec<u8>,
+    pub problem: Vec<u8>,
+    pub plan: Vec<u8>,
+    pub cert: Vec<u8>,
 }
 
 /// Returns the line that is printed for the texts, the plan's in its plain form, and the exit status. Fails as
@@ -92,31 +85,39 @@ fn answer_to<R: AllocGlobal + Threads + Sync>(
     answer_of(rt, &texts.domain, &texts.problem, &plan, &texts.cert)
 }
 
-/// Returns the bytes of the four files, read in this order. Fails as `read_file` does.
-fn read_texts<D: Device>(
-    alloc: Global,
-    device: &mut D,
-    domain: &str,
-    problem: &str,
-    plan: &str,
-    cert: &str,
-) -> Result<Texts, Fault>
-    ensures told { (h : List Event) → D.history device.old ≡ Some h →
-        IfOk result (λ t. D.history device.new ≡ Some (h ++ reads domain.now t.domain.items problem.now t.problem.items plan.now t.plan.items cert.now t.cert.items)) }
-    ensures same { OnOk result (D.failure_count device.new ≡ D.failure_count device.old) }
-    ensures failed { IfErr result (λ e. IsDeviceFault e (D.failure_count device.old) (D.failure_count device.new)) }
-    ensures unput { IsUnput (D.history device.old) (D.history device.new) }
-{
-    let domain = read_file(alloc, device, domain, FileWord::Domain)?;
-    let problem = read_file(alloc, device, problem, FileWord::Problem)?;
-    let plan = read_file(alloc, device, plan, FileWord::Plan)?;
-    let cert = read_file(alloc, device, cert, FileWord::Cert)?;
-    Ok(Texts {
-        domain,
-        problem,
-        plan,
-        cert,
-    })
+/// The judgement of the plan of these files.
+#[derive(Clone, Copy)]
+struct Judgement<'a> {
+    domain: &'a str,
+    problem: &'a str,
+    plan: &'a str,
+    cert: &'a str,
+}
+
+impl<'a> Judge for Judgement<'a> {
+    ghost use Rattle.optplan_plan_texts.specs.Plain.{plain};
+    ghost use Rattle.optplan_optimal.specs.Running.{IsOptimalityReply, IsOptimalityReport, reads};
+
+    type Texts = Texts;
+
+    ghost reads = { λ c t. reads c.domain.now t.domain.items c.problem.now t.problem.items c.plan.now t.plan.items c.cert.now t.cert.items };
+
+    ghost is_answer = { λ t. IsOptimalityReply t.domain.items t.problem.items (plain t.plan.items) t.cert.items };
+
+    ghost is_refusal = { λ t. IsOptimalityReport t.domain.items t.problem.items (plain t.plan.items) t.cert.items };
+
+    fn read<D: Device>(&self, alloc: Global, device: &mut D) -> Result<Texts, Fault> {
+        let domain = read_file(alloc, device, self.domain, FileWord::Domain)?;
+        let problem = read_file(alloc, device, self.problem, FileWord::Problem)?;
+        let plan = read_file(alloc, device, self.plan, FileWord::Plan)?;
+        let cert = read_file(alloc, device, self.cert, FileWord::Cert)?;
+        Ok(Texts {
+            domain,
+            problem,
+            plan,
+            cert,
+        })
+    }
 }
 
 /// Judges whether a plan is optimal: reads the four files, and prints the verdict's line or reports the fault. The plan
@@ -136,11 +137,18 @@ pub fn run_optimality<D: Device, R: AllocGlobal + Threads + Sync>(
     ensures device_failed { result ≡ Status.DeviceFailed → D.failure_count device.old + 1 ≤ D.failure_count device.new }
     ensures unput { result ≡ Status.OutOfMemory → IsUnput (D.history device.old) (D.history device.new) }
 {
-    match read_texts(rt.alloc(), device, domain, problem, plan, cert) {
-        Ok(texts) => {
-            let answer = answer_to(rt, texts);
-            reply(rt.alloc(), device, &answer)
-        }
-        Err(fault) => report(rt.alloc(), device, &fault),
-    }
+    let command = Judgement {
+        domain,
+        problem,
+        plan,
+        cert,
+    };
+    judge_files(
+        rt.alloc(),
+        device,
+        &command,
+        |texts: Texts| -> Result<(String, Status), Fault>
+            ensures { IsAnswered (IsOptimalityReply texts.domain.items texts.problem.items (plain texts.plan.items) texts.cert.items) (IsOptimalityReport texts.domain.items texts.problem.items (plain texts.plan.items) texts.cert.items) result }
+        { answer_to(rt, texts) },
+    )
 }

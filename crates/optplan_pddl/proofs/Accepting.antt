@@ -17,9 +17,9 @@ use Rattle.optplan_pddl.specs.Plans.{step_of}
 use Rattle.optplan_pddl.proofs.Actions.{plan_is_valid}
 use Rattle.optplan_pddl.proofs.SameTexts.{same_text}
 use Rattle.validate.specs.Steps.{Step}
-use Rattle.optplan_solver.specs.Findings.{wanted_with, IsPlanAt, IsCertificateOf}
-use Rattle.optplan_solver.specs.declared.found.FoundPlan.{FoundPlan}
-use Rattle.optplan_solver.specs.declared.answer.WrittenPlan.{WrittenPlan}
+use Rattle.optplan_search.specs.Findings.{wanted_with, IsPlanAt, IsCertificateOf}
+use Rattle.optplan_search.specs.declared.found.FoundPlan.{FoundPlan}
+use Rattle.optplan_solver.specs.declared.forms.WrittenPlan.{WrittenPlan}
 use Rattle.optplan_solver.proofs.WrittenAnswers.{few_entries}
 use Rattle.optplan_pddl.specs.Answers.{IsAccepted, IsPlanningPlan}
 

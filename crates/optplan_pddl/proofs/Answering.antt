@@ -9,12 +9,12 @@ use Rattle.cert_value.specs.Certificates.{Kind}
 use Rattle.cert_value.specs.Views.{kind_of}
 use Rattle.cert_text.specs.Spelling.{spelling}
 use Rattle.packed_spread.specs.Spreads as spread
-use Rattle.optplan_solver.specs.SearchEnds.{EndsOf}
+use Rattle.optplan_search.specs.SearchEnds.{EndsOf}
 use Rattle.optplan_pddl.specs.Kinds.{translation_kind}
-use Rattle.optplan_solver.specs.Findings.{Found, wants, IsFinding}
+use Rattle.optplan_search.specs.Findings.{Found, wants, IsFinding}
 use Rattle.optplan_solver.specs.Answers.{HasPlans, IsGiven}
 use Rattle.optplan_solver.proofs.WrittenAnswers.{found_has_plans, written_answer}
-use Rattle.optplan_solver.specs.declared.fault.SearchFault.{SearchFault}
+use Rattle.optplan_search.specs.declared.fault.SearchFault.{SearchFault}
 use Rattle.optplan_solver.specs.declared.fault.SolveFault.{SolveFault}
 use Rattle.optplan_solver.specs.declared.fault.SolveFault.TheVariants.{Texts, Search}
 use Rattle.optplan_pddl.specs.Answers.{PlanningAnswer, IsAccepted, IsPlanningPlan, IsTranslatedPlan, IsPlanningAnswer, IsSearchRefusal, IsPlanningRefusal}

@@ -14,11 +14,11 @@ use Rattle.checker.specs.declared.verdict.PlanningVerdict.TheVariants.{Accepted}
 use Rattle.validate.specs.Steps.{Step}
 use Rattle.optplan_pddl.specs.Plans.{step_of, text_of_plan}
 use Rattle.packed_spread.specs.Spreads as spread
-use Rattle.optplan_solver.specs.SearchEnds.{EndsOf}
+use Rattle.optplan_search.specs.SearchEnds.{EndsOf}
 use Rattle.optplan_solver.specs.Answers.{IsWrittenAnswer}
-use Rattle.optplan_solver.specs.declared.answer.WrittenPlan.{WrittenPlan}
-use Rattle.optplan_solver.specs.declared.answer.Answer.{Answer}
-use Rattle.optplan_solver.specs.declared.fault.SearchFault.{SearchFault}
+use Rattle.optplan_solver.specs.declared.forms.WrittenPlan.{WrittenPlan}
+use Rattle.optplan_search.specs.declared.answer.Answer.{Answer}
+use Rattle.optplan_search.specs.declared.fault.SearchFault.{SearchFault}
 use Rattle.optplan_solver.specs.declared.fault.SolveFault.{SolveFault}
 use Rattle.optplan_solver.specs.declared.fault.SolveFault.TheVariants.{Texts, Search}
 use Rattle.optplan_pddl.specs.declared.fault.PrepareFault.{PrepareFault}

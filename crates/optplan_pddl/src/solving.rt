@@ -1,8 +1,9 @@
 //! Solving a planning task, from texts to texts.
 
 ghost use Rattle.std.specs.Prelude.{◌≡◌, ℕ, Bool, List, IfOk, IfErr};
-ghost use Rattle.optplan_solver.specs.Findings.{IsPlanAt};
-ghost use Rattle.optplan_solver.specs.Searches.{EndsAfter, IsRefusedAfter, EndsBySeed, IsRefusedBySeed, EndsByThreads, IsRefusedByThreads};
+ghost use Rattle.optplan_search.specs.Findings.{IsPlanAt};
+ghost use Rattle.optplan_search.specs.Searches.{EndsAfter, IsRefusedAfter, EndsBySeed, IsRefusedBySeed};
+ghost use Rattle.optplan_solver.specs.ThreadedSearches.{EndsByThreads, IsRefusedByThreads};
 ghost use Rattle.optplan_pddl.specs.Steps.{HasStepNames};
 ghost use Rattle.optplan_pddl.specs.Prepared.{IsPrepared};
 ghost use Rattle.optplan_pddl.specs.Answers.{IsTranslatedPlan, IsPlanningAnswer, IsSearchRefusal, IsPlanningRefusal};

@@ -8,7 +8,7 @@ use Rattle.optplan_replies.specs.declared.status.Status.{Status}
 use Rattle.optplan_replies.specs.declared.status.Status.TheVariants.{DeviceFailed, OutOfMemory}
 use Rattle.optplan_replies.specs.Statuses.{IsOfVerdict}
 use Rattle.optplan_replies.specs.Faults.{fault_status}
-use Rattle.optplan_replies.specs.Runs.{IsQuiet, Follows, task_reads}
+use Rattle.optplan_replies.specs.Runs.{IsAnswered, IsQuiet, Follows, task_reads}
 
 -- what follows the reading of files, where no call of the device failed
 pub replied : {Z : Type 0} (Answers : List ℕ → Status → Type 0) (Refuses : Fault → Type 0) (answer : Result (String Z × Status) Fault) (mid new : Option (List Event)) (h : List Event) (status : Status)
@@ -35,18 +35,36 @@ known_verdict : (status : Status) → IsOfVerdict status → status ≢ OutOfMem
 known_verdict status (inl done) = λ memory. cc
 known_verdict status (inr rejected) = λ memory. cc
 
-pub known_verdicts : {Z : Type 0} (answer : Result (String Z × Status) Fault) → IfOk answer (λ r. IsOfVerdict r.1) → IfOk answer (λ r. r.1 ≢ OutOfMemory)
-known_verdicts (Ok r) verdict = known_verdict r.1 verdict
-known_verdicts (Err e) verdict = tt
-
--- a reply ends with `DeviceFailed` only after a failure that is counted, where no text is refused with it
-pub reply_failed : {Z : Type 0} (Refuses : Fault → Type 0) (answer : Result (String Z × Status) Fault) (status : Status) (old new : ℕ)
-    → ((e : Fault) → Refuses e → fault_status e ≢ DeviceFailed)
-    → IfOk answer (λ r. IsOfVerdict r.1) → IfErr answer (λ e. Refuses e)
+-- a reply to an answer ends with `DeviceFailed` only after a failure that is counted
+pub reply_failed : {Z : Type 0} (Answers : List ℕ → Status → Type 0) (Refuses : Fault → Type 0) (answer : Result (String Z × Status) Fault) (status : Status) (old new : ℕ)
+    → IsAnswered {Z = Z} Answers Refuses answer
     → (status ≡ DeviceFailed → IfOk answer (λ r. r.1 ≢ DeviceFailed → old + 1 ≤ new)) → IfErr answer (λ e. status ≡ fault_status e)
     → status ≡ DeviceFailed → old + 1 ≤ new
-reply_failed Refuses (Ok r) status old new other verdict refused counted fault_is failed = counted failed (of_verdict r.1 verdict)
-reply_failed Refuses (Err e) status old new other verdict refused counted fault_is failed = absurd (other e refused (sym fault_is ∙ failed))
+reply_failed Answers Refuses (Ok r) status old new answered counted fault_is failed = counted failed answered.0.1
+reply_failed Answers Refuses (Err e) status old new answered counted fault_is failed = absurd (answered.1.1 (sym fault_is ∙ failed))
+
+-- an answer is no want of memory
+pub known_answer : {Z : Type 0} (Answers : List ℕ → Status → Type 0) (Refuses : Fault → Type 0) (answer : Result (String Z × Status) Fault)
+    → IsAnswered {Z = Z} Answers Refuses answer → IfOk answer (λ r. r.1 ≢ OutOfMemory)
+known_answer Answers Refuses (Ok r) answered = answered.0.2
+known_answer Answers Refuses (Err e) answered = tt
+
+-- what follows the reading of files to which a command has an answer, where no call of the device failed
+pub answered_texts : {Z : Type 0} (Answers : List ℕ → Status → Type 0) (Refuses : Fault → Type 0) (answer : Result (String Z × Status) Fault) (mid new : Option (List Event)) (h : List Event) (status : Status)
+    → mid ≡ Some h → IsAnswered {Z = Z} Answers Refuses answer
+    → IfOk answer (λ r. Adds mid new (HasPut (string_bytes r.0))) → IfOk answer (λ r. status ≡ r.1)
+    → IfErr answer (λ e. (later : List Event) × (new ≡ Some (h ++ later)) × IsQuiet later) → IfErr answer (λ e. status ≡ fault_status e)
+    → (later : List Event) × (new ≡ Some (h ++ later)) × Follows Answers Refuses later status
+answered_texts {Z = Z} Answers Refuses (Ok r) mid new h status mid_is answered = replied {Z = Z} Answers Refuses (Ok r) mid new h status mid_is answered.0.0 tt
+answered_texts {Z = Z} Answers Refuses (Err e) mid new h status mid_is answered = replied {Z = Z} Answers Refuses (Err e) mid new h status mid_is tt answered.1.0
+
+-- a verdict on texts, or a refusal that is no failure of the device, is an answer
+pub verdict_answered : {Z : Type 0} (Answers : List ℕ → Status → Type 0) (Refuses : Fault → Type 0) (answer : Result (String Z × Status) Fault)
+    → ((e : Fault) → Refuses e → fault_status e ≢ DeviceFailed)
+    → IfOk answer (λ r. Answers (string_bytes r.0) r.1) → IfOk answer (λ r. IsOfVerdict r.1) → IfErr answer (λ e. Refuses e)
+    → IsAnswered {Z = Z} Answers Refuses answer
+verdict_answered Answers Refuses (Ok r) of_texts answered verdict refused = ((answered, of_verdict r.1 verdict, known_verdict r.1 verdict), tt)
+verdict_answered Answers Refuses (Err e) of_texts answered verdict refused = (tt, (refused, of_texts e refused))
 
 -- two files were read
 pub task_reads_same : (mid : Option (List Event)) (h : List Event) (domain d d' problem p p' : List ℕ) → d' ≡ d → p' ≡ p

@@ -1,9 +1,10 @@
 -- The effects of every command on its device, and its exit status.
-use Rattle.std.specs.Prelude.{◌≡◌, ℕ, ◌+◌, ◌⊎◌, ◌==◌, not, Bool, true, List, [], ◌∷◌, ◌++◌, Option, Some}
+use Rattle.std.specs.Prelude.{◌≡◌, ◌≢◌, ℕ, ◌+◌, ◌⊎◌, ◌==◌, not, Bool, true, List, [], ◌∷◌, ◌++◌, Option, Some, Result, String, IfOk, IfErr, string_bytes}
 use Rattle.optplan_device.specs.Events.{Event, HasRead, HasWritten, HasPut, HasReported}
 use Rattle.optplan_replies.specs.declared.fault.Fault.{Fault}
 use Rattle.optplan_replies.specs.declared.fault.Fault.TheVariants.{OutOfMemory, CannotRead, CannotWrite, Task, Plan, Sas, Cert, GroundLimit, TaskTooLarge, TotalTooLarge}
 use Rattle.optplan_replies.specs.declared.status.Status.{Status}
+use Rattle.optplan_replies.specs.declared.status.Status.TheVariants as exit
 use Rattle.optplan_replies.specs.Faults.{fault_status}
 
 -- whether an argument is not an option: it does not start with a hyphen
@@ -42,6 +43,30 @@ abbrev pub Follows : (List ℕ → Status → Type 0) → (Fault → Type 0) →
 Follows IsAnswer IsRefusal events status =
     ((line : List ℕ) × IsAnswer line status × (events ≡ HasPut line ∷ []))
     ⊎ ((e : Fault) × IsRefusal e × (status ≡ fault_status e) × IsQuiet events)
+
+-- the result is an answer with a line and a status that is neither a failure of the device nor want of memory, or a
+-- fault of the texts
+abbrev pub IsAnswered : {Z : Type 0} → (List ℕ → Status → Type 0) → (Fault → Type 0) → Result (String Z × Status) Fault → Type 0
+IsAnswered IsAnswer IsRefusal r =
+    IfOk r (λ p. IsAnswer (string_bytes p.0) p.1 × (p.1 ≢ exit.DeviceFailed) × (p.1 ≢ exit.OutOfMemory))
+    × IfErr r (λ e. IsRefusal e × (fault_status e ≢ exit.DeviceFailed))
+
+-- every text is accepted
+abbrev pub AcceptsAll : {T : Type 0} → (T → Type 0) → Type 0
+AcceptsAll {T = T} accepts = (t : T) → accepts t
+
+-- whatever the texts, the result is an answer to them
+abbrev pub AnswersAll : {T Z : Type 0} → (T → List ℕ → Status → Type 0) → (T → Fault → Type 0) → (T → Result (String Z × Status) Fault → Type 0) → Type 0
+AnswersAll {T = T} {Z = Z} IsAnswer IsRefusal gives = (t : T) (r : Result (String Z × Status) Fault) → gives t r → IsAnswered (IsAnswer t) (IsRefusal t) r
+
+-- a command read these texts of its files, in this order; then it printed the line of its verdict on them, or refused
+-- them
+pub record Judges {T : Type 0} (reads : T → List Event) (IsAnswer : T → List ℕ → Status → Type 0) (IsRefusal : T → Fault → Type 0)
+    (old new : List Event) (status : Status) : Type 0 where
+  pub texts : T
+  pub later : List Event
+  pub events : new ≡ old ++ (reads texts ++ later)
+  pub follows : Follows (IsAnswer texts) (IsRefusal texts) later status
 
 -- the fault of a device that changes the count of failures in this way: allocation failed, or the failure is counted
 abbrev pub IsDeviceFault : Fault → ℕ → ℕ → Type 0

@@ -10,14 +10,14 @@ use Rattle.cert_value.specs.declared.certificate.CertificateKind.TheVariants as 
 use Rattle.sasfile_reader.specs.SasTexts.{SpellsTask}
 use Rattle.packed_spread.specs.Spreads as spread
 use Rattle.packed_spread.specs.Spreads.{zobrist_owner}
-use Rattle.optplan_solver.specs.SearchEnds.{EndsOf}
-use Rattle.optplan_solver.specs.Findings.{Found, wants, IsFoundFor, IsFinding}
+use Rattle.optplan_search.specs.SearchEnds.{EndsOf}
+use Rattle.optplan_search.specs.Findings.{Found, wants, IsFoundFor, IsFinding}
 use Rattle.optplan_solver.specs.Answers.{HasPlans, IsGiven}
 use Rattle.optplan_solver.proofs.WrittenAnswers.{found_has_plans, written_answer}
 use Rattle.cert_text.specs.Spelling.{spelling}
 use Rattle.optplan_sas.proofs.Spelled.{accepted}
 use Rattle.optplan_sas.specs.SasAnswers.{SasAnswer, IsSasAnswer, IsSasRefusal, IsSasPlan, IsAccepted}
-use Rattle.optplan_solver.specs.declared.fault.SearchFault.{SearchFault}
+use Rattle.optplan_search.specs.declared.fault.SearchFault.{SearchFault}
 use Rattle.optplan_solver.specs.declared.fault.SolveFault.{SolveFault}
 use Rattle.optplan_solver.specs.declared.fault.SolveFault.TheVariants.{Texts, Search}
 use Rattle.sasfile_reader.specs.declared.fault.SasFault.{SasFault}

@@ -4,7 +4,7 @@ use Rattle.cost.specs.Distances.{Distance}
 use Rattle.fdr.specs.Tasks.{FiniteDomainTask}
 use Rattle.sasfile_reader.specs.SasTexts.{SpellsTask}
 use Rattle.checker_fdr.specs.Answers.{is_for_finite_domain}
-use Rattle.optplan_solver.specs.Findings.{wanted_with, IsCertificateOf}
+use Rattle.optplan_search.specs.Findings.{wanted_with, IsCertificateOf}
 use Rattle.optplan_solver.proofs.WrittenAnswers.{few_entries}
 use Rattle.optplan_sas.specs.SasAnswers.{IsAccepted}
 use Rattle.cert_value.specs.Certificates.{FiniteDomain, CertificateValue}

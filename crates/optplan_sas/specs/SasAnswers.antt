@@ -12,12 +12,12 @@ use Rattle.sasfile_writer.specs.Plans.{sas_plan_text}
 use Rattle.checker_fdr.specs.Answers.{IsAnswer}
 use Rattle.checker_fdr.specs.declared.verdict.Verdict.TheVariants.{Accepted}
 use Rattle.packed_spread.specs.Spreads as spread
-use Rattle.optplan_solver.specs.SearchEnds.{EndsOf}
-use Rattle.optplan_solver.specs.Findings.{IsPlanAt}
-use Rattle.optplan_solver.specs.declared.fault.SearchFault.{SearchFault}
+use Rattle.optplan_search.specs.SearchEnds.{EndsOf}
+use Rattle.optplan_search.specs.Findings.{IsPlanAt}
+use Rattle.optplan_search.specs.declared.fault.SearchFault.{SearchFault}
 use Rattle.optplan_solver.specs.Answers.{IsWrittenAnswer}
-use Rattle.optplan_solver.specs.declared.answer.WrittenPlan.{WrittenPlan}
-use Rattle.optplan_solver.specs.declared.answer.Answer.{Answer}
+use Rattle.optplan_solver.specs.declared.forms.WrittenPlan.{WrittenPlan}
+use Rattle.optplan_search.specs.declared.answer.Answer.{Answer}
 use Rattle.optplan_solver.specs.declared.fault.SolveFault.{SolveFault}
 use Rattle.optplan_solver.specs.declared.fault.SolveFault.TheVariants.{Texts, Search}
 

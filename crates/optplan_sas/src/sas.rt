@@ -2,8 +2,9 @@
 
 ghost use Rattle.std.specs.Prelude.{◌≡◌, ℕ, List, IfOk, IfErr};
 ghost use Rattle.sasfile_reader.specs.SasTexts.{SpellsTask};
-ghost use Rattle.optplan_solver.specs.Findings.{IsPlanAt};
-ghost use Rattle.optplan_solver.specs.Searches.{EndsAfter, IsRefusedAfter, EndsBySeed, IsRefusedBySeed, EndsByThreads, IsRefusedByThreads};
+ghost use Rattle.optplan_search.specs.Findings.{IsPlanAt};
+ghost use Rattle.optplan_search.specs.Searches.{EndsAfter, IsRefusedAfter, EndsBySeed, IsRefusedBySeed};
+ghost use Rattle.optplan_solver.specs.ThreadedSearches.{EndsByThreads, IsRefusedByThreads};
 ghost use Rattle.optplan_sas.specs.SasAnswers.{IsSasAnswer, IsSasRefusal, IsSasPlan};
 
 use cert_value::CertificateKind;

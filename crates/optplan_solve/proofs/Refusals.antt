@@ -2,8 +2,8 @@
 use Rattle.std.proofs.Common.{◌≢◌, ℕ, List, ap, ◌∙◌, sym}
 use Rattle.fdr.specs.Tasks.{FiniteDomainTask}
 use Rattle.optplan_options.specs.Choices.{Choices}
-use Rattle.optplan_solver.specs.declared.fault.SearchFault.{SearchFault}
-use Rattle.optplan_solver.specs.declared.fault.SearchFault.TheVariants as search
+use Rattle.optplan_search.specs.declared.fault.SearchFault.{SearchFault}
+use Rattle.optplan_search.specs.declared.fault.SearchFault.TheVariants as search
 use Rattle.optplan_replies.specs.declared.status.Status.TheVariants.{DeviceFailed}
 use Rattle.optplan_replies.specs.Faults.{fault_status}
 use Rattle.optplan_replies.specs.declared.fault.Fault.{Fault}

@@ -9,8 +9,8 @@ use Rattle.optplan_replies.specs.declared.status.Status.{Status}
 use Rattle.optplan_replies.specs.declared.status.Status.TheVariants.{DeviceFailed}
 use Rattle.optplan_replies.specs.Faults.{fault_status}
 use Rattle.optplan_replies.specs.Runs.{IsQuiet}
-use Rattle.optplan_solver.specs.declared.answer.Answer.{Answer}
-use Rattle.optplan_solver.specs.declared.answer.WrittenPlan.{WrittenPlan}
+use Rattle.optplan_search.specs.declared.answer.Answer.{Answer}
+use Rattle.optplan_solver.specs.declared.forms.WrittenPlan.{WrittenPlan}
 use Rattle.optplan_solve.specs.Outputs.{OutputFiles, text_writes, certificate_of, plan_text_of, answer_text, length_report, outputs, answer_status, Replies}
 
 -- an event after those of a history

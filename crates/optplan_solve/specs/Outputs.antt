@@ -4,12 +4,12 @@ use Rattle.std.specs.Option.{option_map}
 use Rattle.cert_value.specs.Certificates.{CertificateValue}
 use Rattle.cert_text.specs.Spelling.{spelling}
 use Rattle.optplan_device.specs.Events.{Event, HasWritten, HasPut, HasReported}
-use Rattle.optplan_solver.specs.declared.answer.WrittenPlan.{WrittenPlan}
-use Rattle.optplan_solver.specs.declared.answer.SoFar.{SoFar}
-use Rattle.optplan_solver.specs.declared.answer.Answer.{Answer}
-use Rattle.optplan_solver.specs.declared.answer.Answer.TheVariants.{Solved, Unsolvable, Limit}
-use Rattle.optplan_solver.specs.declared.fault.SearchFault.{SearchFault}
-use Rattle.optplan_solver.specs.declared.fault.SearchFault.TheVariants as search
+use Rattle.optplan_solver.specs.declared.forms.WrittenPlan.{WrittenPlan}
+use Rattle.optplan_search.specs.declared.answer.SoFar.{SoFar}
+use Rattle.optplan_search.specs.declared.answer.Answer.{Answer}
+use Rattle.optplan_search.specs.declared.answer.Answer.TheVariants.{Solved, Unsolvable, Limit}
+use Rattle.optplan_search.specs.declared.fault.SearchFault.{SearchFault}
+use Rattle.optplan_search.specs.declared.fault.SearchFault.TheVariants as search
 use Rattle.optplan_replies.specs.declared.fault.Fault.{Fault}
 use Rattle.optplan_replies.specs.declared.fault.Fault.TheVariants.{OutOfMemory, TotalTooLarge}
 use Rattle.optplan_replies.specs.declared.status.Status.{Status}

@@ -6,7 +6,7 @@ use Rattle.fdr.specs.Tasks.{FiniteDomainTask}
 use Rattle.sasfile_reader.specs.SasTexts.{SpellsTask}
 use Rattle.sasfile_reader.specs.Reading.{task_in}
 use Rattle.sasfile_reader.specs.declared.fault.SasFault.TheVariants as sas_fault
-use Rattle.optplan_solver.specs.declared.fault.SearchFault.{SearchFault}
+use Rattle.optplan_search.specs.declared.fault.SearchFault.{SearchFault}
 use Rattle.optplan_sas.specs.SasAnswers.{IsSasAnswer}
 use Rattle.optplan_replies.specs.declared.status.Status.{Status}
 use Rattle.optplan_replies.specs.declared.fault.Fault.{Fault}

@@ -2,13 +2,14 @@
 use Rattle.std.specs.Prelude.{◌≡◌, ℕ, ◌⊎◌, Some}
 use Rattle.fdr.specs.Tasks.{FiniteDomainTask}
 use Rattle.packed_spread.specs.Spreads as spread
-use Rattle.optplan_solver.specs.SearchEnds.{EndsOf}
+use Rattle.optplan_search.specs.SearchEnds.{EndsOf}
 use Rattle.engine_round.specs.Turns.{MayStop}
 use Rattle.engine_round.specs.declared.gate.Stop.{Stop}
 use Rattle.engine_round.specs.declared.gate.Stop.TheVariants.{Fail, Limit, Stage}
 use Rattle.optplan_options.specs.Choices.{Choices}
-use Rattle.optplan_solver.specs.Searches.{EndsByThreads, IsRefusedByThreads, EndsBySeed, IsRefusedBySeed}
-use Rattle.optplan_solver.specs.declared.fault.SearchFault.{SearchFault}
+use Rattle.optplan_search.specs.Searches.{EndsBySeed, IsRefusedBySeed}
+use Rattle.optplan_solver.specs.ThreadedSearches.{EndsByThreads, IsRefusedByThreads}
+use Rattle.optplan_search.specs.declared.fault.SearchFault.{SearchFault}
 use Rattle.optplan_solve.specs.declared.settings.Watch.{Watch}
 use Rattle.optplan_solve.specs.declared.settings.Schedule.{Schedule}
 use Rattle.optplan_solve.specs.declared.settings.Schedule.TheVariants.{Threads, Drawn}

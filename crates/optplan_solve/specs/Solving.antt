@@ -3,7 +3,7 @@ use Rattle.std.specs.Prelude.{◌≡◌, ℕ, List, ◌++◌}
 use Rattle.optplan_device.specs.Events.{Event}
 use Rattle.optplan_options.specs.Choices.{Choices}
 use Rattle.translate.specs.declared.fault.SizeFault.TheVariants as size
-use Rattle.optplan_solver.specs.declared.fault.SearchFault.{SearchFault}
+use Rattle.optplan_search.specs.declared.fault.SearchFault.{SearchFault}
 use Rattle.optplan_pddl.specs.Answers.{IsPlanningAnswer, IsPrepareRefusal, IsSearchRefusal}
 use Rattle.optplan_pddl.specs.declared.fault.PrepareFault.TheVariants.{Size}
 use Rattle.optplan_replies.specs.declared.status.Status.{Status}

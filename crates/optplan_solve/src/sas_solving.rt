@@ -16,14 +16,12 @@ use crate::settings::{Schedule, Settings};
 use crate::watcher::{Narrator, Watcher};
 use fdr::FdrTask;
 use optplan_device::Device;
-use optplan_replies::{Fault, FileWord, Status, read_file, report};
+use optplan_replies::{Fault, FileWord, Runtime, Status, read_file, report};
 use optplan_sas::{SasAnswer, simulate_task, solve_task};
 use optplan_solver::SearchFault;
 use sasfile::read_sas;
 use std::alloc::Global;
-use std::sync::Wait;
-use std::thread::Threads;
-use std::time::{Clock, Instant};
+use std::time::Instant;
 
 /// Returns the task that the text spells. Fails with the first fault of the text, or if allocation fails.
 fn task_in(alloc: Global, sas: &[u8]) -> Result<FdrTask, Fault>
@@ -37,7 +35,7 @@ fn task_in(alloc: Global, sas: &[u8]) -> Result<FdrTask, Fault>
 }
 
 /// Returns the answer for a task, by the schedule of the settings, whose seconds count from `start`.
-fn solved<R: Threads + Wait + Clock + Eprint + Sync + AllocGlobal>(
+fn solved<R: Runtime>(
     rt: &R,
     task: &FdrTask,
     settings: &Settings<'_>,
@@ -62,7 +60,7 @@ fn solved<R: Threads + Wait + Clock + Eprint + Sync + AllocGlobal>(
 }
 
 /// Returns the answer for a task, as `solved` does, with the program's fault.
-fn answer_of<R: Threads + Wait + Clock + Eprint + Sync + AllocGlobal>(
+fn answer_of<R: Runtime>(
     rt: &R,
     task: &FdrTask,
     settings: &Settings<'_>,
@@ -80,7 +78,7 @@ fn answer_of<R: Threads + Wait + Clock + Eprint + Sync + AllocGlobal>(
 
 /// Creates the requested files, searches, and writes and prints the answer, or reports a fault. Returns the exit
 /// status.
-fn solve_read<D: Device, R: Threads + Wait + Clock + Eprint + Sync + AllocGlobal>(
+fn solve_read<D: Device, R: Runtime>(
     rt: &R,
     device: &mut D,
     task: &FdrTask,
@@ -106,7 +104,7 @@ fn solve_read<D: Device, R: Threads + Wait + Clock + Eprint + Sync + AllocGlobal
 }
 
 /// Solves the task that the text spells, and returns the exit status. The text is dropped before the search.
-fn solve_text<D: Device, R: Threads + Wait + Clock + Eprint + Sync + AllocGlobal>(
+fn solve_text<D: Device, R: Runtime>(
     rt: &R,
     device: &mut D,
     sas: Vec<u8>,
@@ -136,7 +134,7 @@ fn solve_text<D: Device, R: Threads + Wait + Clock + Eprint + Sync + AllocGlobal
 /// Returns the exit status: `Done` with a cheapest plan, `Unsolvable` if there is none, `Limited` at a limit, or the
 /// fault's status. The file for the plan stays empty if there is none. If a file or standard output cannot be written,
 /// the others still are, and the status is `DeviceFailed`.
-pub fn run_solve_sas<D: Device, R: Threads + Wait + Clock + Eprint + Sync + AllocGlobal>(
+pub fn run_solve_sas<D: Device, R: Runtime>(
     rt: &R,
     device: &mut D,
     sas: &str,

@@ -16,12 +16,10 @@ use crate::settings::{Schedule, Settings};
 use crate::watcher::{Narrator, Watcher};
 use optplan_device::Device;
 use optplan_pddl::{PlanningAnswer, PrepareFault, Prepared, prepare};
-use optplan_replies::{Fault, Status, read_task_files, report, task_fault};
+use optplan_replies::{Fault, Runtime, Status, read_task_files, report, task_fault};
 use optplan_solver::SearchFault;
 use std::alloc::Global;
-use std::sync::Wait;
-use std::thread::Threads;
-use std::time::{Clock, Instant};
+use std::time::Instant;
 use translate::SizeFault;
 
 /// Converts the fault of the texts into the program's.
@@ -55,7 +53,7 @@ fn prepared(
 }
 
 /// Returns the answer for a task, by the schedule of the settings, whose seconds count from `start`.
-fn planned<R: Threads + Wait + Clock + Eprint + Sync + AllocGlobal>(
+fn planned<R: Runtime>(
     rt: &R,
     prepared: Prepared,
     settings: &Settings<'_>,
@@ -82,7 +80,7 @@ fn planned<R: Threads + Wait + Clock + Eprint + Sync + AllocGlobal>(
 }
 
 /// Returns the answer for a task, as `planned` does, with the program's fault.
-fn answer_of<R: Threads + Wait + Clock + Eprint + Sync + AllocGlobal>(
+fn answer_of<R: Runtime>(
     rt: &R,
     prepared: Prepared,
     settings: &Settings<'_>,
@@ -102,7 +100,7 @@ fn answer_of<R: Threads + Wait + Clock + Eprint + Sync + AllocGlobal>(
 
 /// Creates the requested files, searches, and writes and prints the answer, or reports a fault. Returns the exit
 /// status.
-fn solve_prepared<D: Device, R: Threads + Wait + Clock + Eprint + Sync + AllocGlobal>(
+fn solve_prepared<D: Device, R: Runtime>(
     rt: &R,
     device: &mut D,
     prepared: Prepared,
@@ -128,7 +126,7 @@ fn solve_prepared<D: Device, R: Threads + Wait + Clock + Eprint + Sync + AllocGl
 }
 
 /// Solves the task that the texts spell, and returns the exit status. The texts are dropped before the search.
-fn solve_texts<D: Device, R: Threads + Wait + Clock + Eprint + Sync + AllocGlobal>(
+fn solve_texts<D: Device, R: Runtime>(
     rt: &R,
     device: &mut D,
     domain: Vec<u8>,
@@ -165,7 +163,7 @@ fn solve_texts<D: Device, R: Threads + Wait + Clock + Eprint + Sync + AllocGloba
 /// Returns the exit status: `Done` with a cheapest plan, `Unsolvable` if there is none, `Limited` at a limit, or the
 /// fault's status. The file for the plan stays empty if there is none. If a file or standard output cannot be written,
 /// the others still are, and the status is `DeviceFailed`.
-pub fn run_solve<D: Device, R: Threads + Wait + Clock + Eprint + Sync + AllocGlobal>(
+pub fn run_solve<D: Device, R: Runtime>(
     rt: &R,
     device: &mut D,
     domain: &str,

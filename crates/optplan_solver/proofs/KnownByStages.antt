@@ -10,13 +10,13 @@ use Rattle.extract.specs.Ends.{EndOf}
 use Rattle.extract.specs.Bounds.{least_best, lower_bound}
 use Rattle.engine_round.specs.Turns.{MayStop}
 use Rattle.optplan_options.specs.Choices.{Choices}
-use Rattle.optplan_solver.specs.SearchEnds.{single, least_among, greatest_among}
-use Rattle.optplan_solver.specs.Searches.{IsStageEnd, stops_in, EndsIn}
-use Rattle.optplan_solver.specs.Findings.{Found, Wanted, IsPlanAt, IsBestSoFar, IsSoFar, IsFound, IsOwnFinding, IsSettledEnd}
+use Rattle.optplan_search.specs.SearchEnds.{single, least_among, greatest_among}
+use Rattle.optplan_solver.specs.ThreadedSearches.{IsStageEnd, stops_in, EndsIn}
+use Rattle.optplan_search.specs.Findings.{Found, Wanted, IsPlanAt, IsBestSoFar, IsSoFar, IsFound, IsOwnFinding, IsSettledEnd}
 use Rattle.optplan_solver.specs.Stages.{cheaper, better, better_known, with_known, IsUnlimited, IsAllOf, IsKnownOf, IsSearchFound, IsStageFound}
-use Rattle.optplan_solver.specs.declared.found.FoundPlan.{FoundPlan}
-use Rattle.optplan_solver.specs.declared.answer.SoFar.{SoFar}
-use Rattle.optplan_solver.specs.declared.answer.Answer.TheVariants.{Solved, Unsolvable, Limit}
+use Rattle.optplan_search.specs.declared.found.FoundPlan.{FoundPlan}
+use Rattle.optplan_search.specs.declared.answer.SoFar.{SoFar}
+use Rattle.optplan_search.specs.declared.answer.Answer.TheVariants.{Solved, Unsolvable, Limit}
 use Rattle.optplan_solver.specs.declared.stages.StageFound.TheVariants.{Answered, Ended}
 use Rattle.optplan_options.specs.declared.options.Tables.TheVariants.{Goal, Staged}
 use Rattle.optplan_solver.proofs.StageEnds.{Orders, callers_end, callers_unlimited}

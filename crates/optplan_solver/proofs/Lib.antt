@@ -1,12 +1,8 @@
-pub mod Schedules
 pub mod PlanTexts
-pub mod Ends
-pub mod WorldEnds
 pub mod StageEnds
 pub mod ThreadEnds
 pub mod KnownByStages
 pub mod KindCopies
-pub mod OwnFindings
 pub mod ReducedFindings
 pub mod SearchedTasks
 pub mod WrittenAnswers

@@ -17,9 +17,9 @@ use Rattle.reduction_classes.specs.Reduced.{reduced_operator, chosen}
 use Rattle.reduction.specs.Reductions.{in_task}
 use Rattle.reduction.specs.declared.reduction.Reduction.{Reduction}
 use Rattle.reduction_certs.specs.InTask.{share_classes, certificate_in_task}
-use Rattle.optplan_solver.specs.Findings.{plain, wants, version_with, IsPlanAt, IsCertifiedBy, IsBestSoFar}
+use Rattle.optplan_search.specs.Findings.{plain, wants, version_with, IsPlanAt, IsCertifiedBy, IsBestSoFar}
 use Rattle.optplan_solver.specs.Reduced.{IsReductionOf, stated_classes}
-use Rattle.optplan_solver.specs.declared.found.FoundPlan.{FoundPlan}
+use Rattle.optplan_search.specs.declared.found.FoundPlan.{FoundPlan}
 use Rattle.optplan_solver.proofs.PlanTexts.{plan_operators_exist}
 
 -- ---- plans

@@ -9,13 +9,13 @@ use Rattle.packed_spread.specs.Spreads.{zobrist_owner}
 use Rattle.engine_round.specs.Turns.{MayStop}
 use Rattle.reduction.specs.declared.reduction.Reduction.{Reduction}
 use Rattle.optplan_options.specs.Choices.{Choices}
-use Rattle.optplan_solver.specs.SearchEnds.{EndsOf}
-use Rattle.optplan_solver.specs.Findings.{Found, plain, wants, IsFoundFor, IsOwnFinding, IsFinding}
-use Rattle.optplan_solver.specs.Searches.{EndsIn, EndsByThreads, IsSearchedFor, IsRefusedIn, IsRefusedByThreads}
+use Rattle.optplan_search.specs.SearchEnds.{EndsOf}
+use Rattle.optplan_search.specs.Findings.{Found, plain, wants, IsFoundFor, IsOwnFinding, IsFinding}
+use Rattle.optplan_solver.specs.ThreadedSearches.{EndsIn, EndsByThreads, IsSearchedFor, IsRefusedIn, IsRefusedByThreads}
 use Rattle.optplan_solver.specs.Reduced.{IsReductionOf, stated_classes}
-use Rattle.optplan_solver.specs.declared.fault.SearchFault.{SearchFault}
-use Rattle.optplan_solver.specs.declared.fault.SearchFault.TheVariants.{OutOfMemory, TotalTooLarge}
-use Rattle.optplan_solver.proofs.OwnFindings.{own_is_finding}
+use Rattle.optplan_search.specs.declared.fault.SearchFault.{SearchFault}
+use Rattle.optplan_search.specs.declared.fault.SearchFault.TheVariants.{OutOfMemory, TotalTooLarge}
+use Rattle.optplan_search.proofs.OwnFindings.{own_is_finding}
 
 module _ (choices : Choices) (may_stop : MayStop) (task : FiniteDomainTask) where
   module _ (searched : FiniteDomainTask) (is_searched : IsSearchedFor choices.reduction task searched) where

@@ -14,13 +14,13 @@ use Rattle.engine.specs.declared.searched.Cause.{Cause}
 use Rattle.engine.specs.declared.searched.Cause.TheVariants as cause
 use Rattle.engine.specs.declared.searched.Searched.TheVariants.{Stopped}
 use Rattle.optplan_options.specs.Choices.{Choices}
-use Rattle.optplan_solver.specs.Findings.{Wanted}
-use Rattle.optplan_solver.specs.Searches.{IsThreadedSpace, IsThreadedEnd, IsRefusedIn, stops_in}
+use Rattle.optplan_search.specs.Findings.{Wanted}
+use Rattle.optplan_solver.specs.ThreadedSearches.{IsThreadedSpace, IsThreadedEnd, IsRefusedIn, stops_in}
 use Rattle.optplan_solver.specs.Stages.{IsUnlimited, IsStageFound}
-use Rattle.optplan_solver.specs.declared.found.FoundPlan.{FoundPlan}
-use Rattle.optplan_solver.specs.declared.answer.SoFar.{SoFar}
-use Rattle.optplan_solver.specs.declared.fault.SearchFault.{SearchFault}
-use Rattle.optplan_solver.specs.declared.fault.SearchFault.TheVariants.{OutOfMemory, TotalTooLarge}
+use Rattle.optplan_search.specs.declared.found.FoundPlan.{FoundPlan}
+use Rattle.optplan_search.specs.declared.answer.SoFar.{SoFar}
+use Rattle.optplan_search.specs.declared.fault.SearchFault.{SearchFault}
+use Rattle.optplan_search.specs.declared.fault.SearchFault.TheVariants.{OutOfMemory, TotalTooLarge}
 use Rattle.optplan_solver.specs.declared.stages.StageFound.TheVariants.{Ended}
 
 -- orders of mappings, as stages pass them on

@@ -12,12 +12,12 @@ use Rattle.engine.specs.declared.searched.Cause.{Cause}
 use Rattle.engine.specs.declared.searched.Cause.TheVariants as cause
 use Rattle.engine.specs.declared.searched.Searched.TheVariants.{Settled, Stopped}
 use Rattle.optplan_options.specs.Choices.{Choices}
-use Rattle.optplan_solver.specs.Findings.{Wanted}
-use Rattle.optplan_solver.specs.Searches.{IsThreadedSpace}
+use Rattle.optplan_search.specs.Findings.{Wanted}
+use Rattle.optplan_solver.specs.ThreadedSearches.{IsThreadedSpace}
 use Rattle.scp_stages.specs.StageOrders.{AreOrdersOf}
-use Rattle.optplan_solver.specs.Stages.{IsKnownOf, IsFoundAt, IsStageFound}
-use Rattle.optplan_solver.specs.declared.found.FoundPlan.{FoundPlan}
-use Rattle.optplan_solver.specs.declared.answer.SoFar.{SoFar}
+use Rattle.optplan_solver.specs.Stages.{IsKnownOf, IsFoundAt, IsFoundWhenStopped, IsStageFound}
+use Rattle.optplan_search.specs.declared.found.FoundPlan.{FoundPlan}
+use Rattle.optplan_search.specs.declared.answer.SoFar.{SoFar}
 use Rattle.optplan_solver.specs.declared.stages.StageFound.{StageFound}
 use Rattle.optplan_solver.specs.declared.stages.StageFound.TheVariants.{Answered, Ended}
 use Rattle.optplan_solver.proofs.StageEnds.{Orders, unlimited_goes_on}
@@ -45,11 +45,11 @@ module _ (choices : Choices) (may_stop : MayStop) (task : FiniteDomainTask) (wan
     )
 
     -- where they were stopped before, and not because a stage ended
-    pub found_stopped : (e : EndOf spread.Zobrist) (why : Cause) (f : StageFound) → why ≢ cause.Stage
+    stopped_otherwise : (e : EndOf spread.Zobrist) (why : Cause) (f : StageFound) → why ≢ cause.Stage
         → IsSearched {F = Unit {0}} zobrist_owner may_stop space n (Stopped e why)
         → IsFoundAt e wanted f → IsStageFound choices may_stop task wanted f
-    found_stopped e why (Ended known orders) other ends found = absurd found
-    found_stopped e why (Answered f) other ends found = (
+    stopped_otherwise e why (Ended known orders) other ends found = absurd found
+    stopped_otherwise e why (Answered f) other ends found = (
       e,
       (space, is_space, inr (why, other, subst (λ (k : ℕ). IsSearched {F = Unit {0}} zobrist_owner may_stop space k (Stopped e why)) n_is ends)),
       same_task e ends.0.space,
@@ -58,14 +58,22 @@ module _ (choices : Choices) (may_stop : MayStop) (task : FiniteDomainTask) (wan
     )
 
     -- where they were stopped because a stage ended
-    pub stage_ended : (e : EndOf spread.Zobrist) (known : Option (SoFar FoundPlan)) (orders : Orders)
+    stage_ended : (e : EndOf spread.Zobrist) (known : Option (SoFar FoundPlan)) (orders : Orders)
         → IsSearched {F = Unit {0}} zobrist_owner may_stop space n (Stopped e cause.Stage)
-        → IsKnownOf choices may_stop e.space.task wanted (e ∷ []) known → AreOrdersOf space.task space.columns (map mappings_of orders.items)
-        → IsStageFound choices may_stop task wanted (Ended known orders)
-    stage_ended e known orders ends is have = (
+        → IsFoundWhenStopped choices may_stop wanted e cause.Stage (Ended known orders) → IsStageFound choices may_stop task wanted (Ended known orders)
+    stage_ended e known orders ends (is, have) = (
       e,
       (space, is_space, subst (λ (k : ℕ). IsSearched {F = Unit {0}} zobrist_owner may_stop space k (Stopped e cause.Stage)) n_is ends),
       subst (λ (t : FiniteDomainTask). IsKnownOf choices may_stop t wanted (e ∷ []) known) (same_task e ends.0.space) is,
-      subst (λ (t : FiniteDomainTask). AreOrdersOf t e.space.columns (map mappings_of orders.items)) (same_task e ends.0.space)
-          (subst (λ (sp : SpaceOf spread.Zobrist). AreOrdersOf sp.task sp.columns (map mappings_of orders.items)) (sym ends.0.space) have),
+      subst (λ (t : FiniteDomainTask). AreOrdersOf t e.space.columns (map mappings_of orders.items)) (same_task e ends.0.space) have,
     )
+
+    -- where they were stopped before, for any reason
+    pub found_stopped : (e : EndOf spread.Zobrist) (why : Cause) (f : StageFound) → IsSearched {F = Unit {0}} zobrist_owner may_stop space n (Stopped e why)
+        → IsFoundWhenStopped choices may_stop wanted e why f → IsStageFound choices may_stop task wanted f
+    found_stopped e cause.Limit f ends found =
+        let other : cause.Limit ≢ cause.Stage = λ same. cc in stopped_otherwise e cause.Limit f other ends found
+    found_stopped e cause.Gate f ends found =
+        let other : cause.Gate ≢ cause.Stage = λ same. cc in stopped_otherwise e cause.Gate f other ends found
+    found_stopped e cause.Stage (Answered f) ends found = absurd found
+    found_stopped e cause.Stage (Ended known orders) ends found = stage_ended e known orders ends found

@@ -9,13 +9,13 @@ use Rattle.cert_value.specs.Certificates.{Kind, CertificateValue}
 use Rattle.cert_text.specs.Spelling.{spelling, text_of, line_text, lines, kind_lines, classes_lines, columns_lines, closed_lines, entry_line}
 use Rattle.packed_spread.specs.Spreads as spread
 use Rattle.packed_spread.specs.Spreads.{zobrist_owner}
-use Rattle.optplan_solver.specs.SearchEnds.{EndsOf, least_best_of}
-use Rattle.optplan_solver.specs.Findings.{Found, Wanted, wanted_with, wants, IsPlanAt, IsBestSoFar, IsCertificateOf, IsCertifiedBy, IsSettledEnd, IsShortEnd, IsFoundFor}
+use Rattle.optplan_search.specs.SearchEnds.{EndsOf, least_best_of}
+use Rattle.optplan_search.specs.Findings.{Found, Wanted, wanted_with, wants, IsPlanAt, IsBestSoFar, IsCertificateOf, IsCertifiedBy, IsSettledEnd, IsShortEnd, IsFoundFor}
 use Rattle.optplan_solver.specs.Answers.{HasPlans, IsGivenBest, IsGiven, IsTextIf, IsBestWritten, IsWrittenAnswer}
-use Rattle.optplan_solver.specs.declared.found.FoundPlan.{FoundPlan}
-use Rattle.optplan_solver.specs.declared.answer.WrittenPlan.{WrittenPlan}
-use Rattle.optplan_solver.specs.declared.answer.Answer.{Answer}
-use Rattle.optplan_solver.specs.declared.answer.Answer.TheVariants.{Solved, Unsolvable, Limit}
+use Rattle.optplan_search.specs.declared.found.FoundPlan.{FoundPlan}
+use Rattle.optplan_solver.specs.declared.forms.WrittenPlan.{WrittenPlan}
+use Rattle.optplan_search.specs.declared.answer.Answer.{Answer}
+use Rattle.optplan_search.specs.declared.answer.Answer.TheVariants.{Solved, Unsolvable, Limit}
 
 -- ---- what is found has plans of the task
 

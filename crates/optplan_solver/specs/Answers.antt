@@ -6,14 +6,14 @@ use Rattle.cert_value.specs.Certificates.{CertificateValue}
 use Rattle.cert_text.specs.Spelling.{spelling}
 use Rattle.packed_spread.specs.Spreads as spread
 use Rattle.packed_spread.specs.Spreads.{zobrist_owner}
-use Rattle.optplan_solver.specs.SearchEnds.{EndsOf, least_best_of}
-use Rattle.optplan_solver.specs.Findings.{Found, IsPlanAt, IsSettledEnd, IsShortEnd}
-use Rattle.optplan_solver.specs.declared.found.FoundPlan.{FoundPlan}
-use Rattle.optplan_solver.specs.declared.answer.WrittenPlan.{WrittenPlan}
-use Rattle.optplan_solver.specs.declared.answer.Solution.{Solution}
-use Rattle.optplan_solver.specs.declared.answer.SoFar.{SoFar}
-use Rattle.optplan_solver.specs.declared.answer.Answer.{Answer}
-use Rattle.optplan_solver.specs.declared.answer.Answer.TheVariants.{Solved, Unsolvable, Limit}
+use Rattle.optplan_search.specs.SearchEnds.{EndsOf, least_best_of}
+use Rattle.optplan_search.specs.Findings.{Found, IsPlanAt, IsSettledEnd, IsShortEnd}
+use Rattle.optplan_search.specs.declared.found.FoundPlan.{FoundPlan}
+use Rattle.optplan_solver.specs.declared.forms.WrittenPlan.{WrittenPlan}
+use Rattle.optplan_search.specs.declared.answer.Solution.{Solution}
+use Rattle.optplan_search.specs.declared.answer.SoFar.{SoFar}
+use Rattle.optplan_search.specs.declared.answer.Answer.{Answer}
+use Rattle.optplan_search.specs.declared.answer.Answer.TheVariants.{Solved, Unsolvable, Limit}
 
 -- ---- a finding in another form
 

@@ -1,7 +1,4 @@
-pub mod SearchEnds
-pub mod Searches
-pub mod Findings
+pub mod ThreadedSearches
 pub mod Stages
-pub mod Schedules
 pub mod Reduced
 pub mod Answers

@@ -7,15 +7,17 @@ use Rattle.packed_spread.specs.Spreads.{zobrist_owner}
 use Rattle.extract.specs.Ends.{EndOf, IsForm}
 use Rattle.engine_round.specs.Turns.{MayStop}
 use Rattle.engine_round.specs.declared.gate.Stop.TheVariants as stop
+use Rattle.engine.specs.declared.searched.Cause.{Cause}
+use Rattle.engine.specs.declared.searched.Cause.TheVariants as cause
 use Rattle.scp.specs.Partitions.{mappings_of}
 use Rattle.optplan_options.specs.Choices.{Choices}
 use Rattle.scp_stages.specs.StageOrders.{AreOrdersOf}
-use Rattle.optplan_solver.specs.SearchEnds.{single, least_among, greatest_among}
-use Rattle.optplan_solver.specs.Searches.{IsThreadedEnd, IsStageEnd}
-use Rattle.optplan_solver.specs.Findings.{Found, Wanted, IsSoFar, IsFound, IsSettledEnd}
-use Rattle.optplan_solver.specs.declared.found.FoundPlan.{FoundPlan}
-use Rattle.optplan_solver.specs.declared.answer.SoFar.{SoFar}
-use Rattle.optplan_solver.specs.declared.answer.Answer.TheVariants.{Solved, Unsolvable, Limit}
+use Rattle.optplan_search.specs.SearchEnds.{single, least_among, greatest_among}
+use Rattle.optplan_solver.specs.ThreadedSearches.{IsThreadedEnd, IsStageEnd}
+use Rattle.optplan_search.specs.Findings.{Found, Wanted, IsSoFar, IsFound, IsSettledEnd}
+use Rattle.optplan_search.specs.declared.found.FoundPlan.{FoundPlan}
+use Rattle.optplan_search.specs.declared.answer.SoFar.{SoFar}
+use Rattle.optplan_search.specs.declared.answer.Answer.TheVariants.{Solved, Unsolvable, Limit}
 use Rattle.optplan_solver.specs.declared.stages.StageFound.{StageFound}
 use Rattle.optplan_solver.specs.declared.stages.StageFound.TheVariants.{Answered, Ended}
 
@@ -76,6 +78,16 @@ IsSearchFound choices may_stop task wanted found =
 abbrev pub IsFoundAt : EndOf spread.Zobrist → Option Wanted → StageFound → Type 0
 IsFoundAt e wanted (Answered found) = IsForm e × IsFound zobrist_owner (single e) wanted found
 IsFoundAt e wanted (Ended known orders) = ⊥
+
+-- the result of a stage whose search was stopped at that end for this reason: what the search has found, or, if the
+-- stage ended, what is known, with the orders of the mappings of its columns
+abbrev pub IsFoundWhenStopped : Choices → MayStop → Option Wanted → EndOf spread.Zobrist → Cause → StageFound → Type 0
+IsFoundWhenStopped choices may_stop wanted e cause.Limit found = IsFoundAt e wanted found
+IsFoundWhenStopped choices may_stop wanted e cause.Gate found = IsFoundAt e wanted found
+IsFoundWhenStopped choices may_stop wanted e cause.Stage (Answered found) = ⊥
+IsFoundWhenStopped choices may_stop wanted e cause.Stage (Ended known orders) =
+    IsKnownOf choices may_stop e.space.task wanted (e ∷ []) known
+    × AreOrdersOf e.space.task e.space.columns (map mappings_of orders.items)
 
 -- the result of a stage whose search may be stopped in these ways: what the search has found, or what is known at its
 -- end, with the orders of the mappings of its columns

@@ -1,27 +1,9 @@
-//! Reasons why a search has no finding.
+//! The reason why a task is not solved.
 
 ghost use Rattle.std.specs.Prelude.{◌≡◌};
-ghost use Rattle.optplan_solver.specs.declared.fault.SearchFault.TheVariants as search;
 ghost use Rattle.optplan_solver.specs.declared.fault.SolveFault.TheVariants as solve;
 
-use std::alloc::AllocError;
-
-/// The reason why a search has no finding.
-#[derive(Clone, Copy, Debug, PartialEq, Eq)]
-pub enum SearchFault {
-    /// Allocation failed. This says nothing about the task.
-    OutOfMemory,
-    /// A path would have a cost, or a number of operators, above 2^62.
-    TotalTooLarge,
-}
-
-impl From<AllocError> for SearchFault {
-    ghost from_gives = { λ _ e. e ≡ search.OutOfMemory };
-
-    fn from(_e: AllocError) -> SearchFault {
-        SearchFault::OutOfMemory
-    }
-}
+use optplan_search::SearchFault;
 
 /// The reason why a task that texts spell is not solved; `E` is a fault of the texts.
 #[derive(Debug, Drop)]

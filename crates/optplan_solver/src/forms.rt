@@ -1,19 +1,29 @@
 //! Findings with their plans in the form in which they are given.
 
 ghost use Rattle.std.specs.Prelude.{IfOk, IfSome};
-ghost use Rattle.optplan_solver.specs.Findings.{IsPlanAt};
+ghost use Rattle.optplan_search.specs.Findings.{IsPlanAt};
 ghost use Rattle.optplan_solver.specs.Answers.{HasPlans, IsGiven, IsGivenBest};
 
-use crate::answer::{Answer, SoFar, Solution, WrittenPlan};
-use crate::found::{Found, FoundPlan};
+use optplan_search::{Answer, Found, FoundPlan, SoFar, Solution};
 use std::alloc::{AllocError, Global};
+
+/// A plan with its cost and its text; `P` is the form of the plan itself.
+#[derive(Drop)]
+pub struct WrittenPlan<P: Drop> {
+    /// The cost of the plan.
+    pub cost: u64,
+    /// The plan.
+    pub plan: P,
+    /// The text of the plan.
+    pub plan_text: String,
+}
 
 /// The form of the plans of a task, which is searched or translated into one that is.
 pub trait PlanForm<P: Drop> {
     ghost use Rattle.std.specs.Prelude.{◌≡◌, IfOk};
     ghost use Rattle.fdr.specs.Tasks.{FiniteDomainTask};
-    ghost use Rattle.optplan_solver.specs.Findings.{IsPlanAt};
-    ghost use Rattle.optplan_solver.specs.declared.answer.WrittenPlan.{WrittenPlan};
+    ghost use Rattle.optplan_search.specs.Findings.{IsPlanAt};
+    ghost use Rattle.optplan_solver.specs.declared.forms.WrittenPlan.{WrittenPlan};
 
     /// The finite-domain task of the plans that are found.
     ghost task: { Self → FiniteDomainTask };

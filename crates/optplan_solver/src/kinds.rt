@@ -3,7 +3,7 @@
 ghost use Rattle.std.specs.Prelude.{◌≡◌, map, IfOk};
 ghost use Rattle.std.specs.Option.{option_map};
 ghost use Rattle.cert_value.specs.Views.{variable_of, kind_of};
-ghost use Rattle.optplan_solver.specs.Findings.{plain};
+ghost use Rattle.optplan_search.specs.Findings.{plain};
 
 use cert_value::{AtomParts, AtomVariable, CertificateKind};
 use std::alloc::{AllocError, Global};

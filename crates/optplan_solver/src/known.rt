@@ -3,8 +3,7 @@
 ghost use Rattle.std.specs.Prelude.{◌≡◌};
 ghost use Rattle.optplan_solver.specs.Stages.{cheaper, better, better_known, with_known};
 
-use crate::answer::{Answer, SoFar};
-use crate::found::{Found, FoundPlan};
+use optplan_search::{Answer, Found, FoundPlan, SoFar};
 
 /// Returns the cheaper of two plans, if there are any; the first if they cost the same.
 fn cheaper(first: Option<FoundPlan>, second: Option<FoundPlan>) -> Option<FoundPlan>

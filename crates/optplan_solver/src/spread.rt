@@ -1,7 +1,7 @@
 //! The spread of the states of a multi-threaded search over its owners.
 
 ghost use Rattle.std.specs.Prelude.{◌≡◌, IfOk};
-ghost use Rattle.optplan_solver.specs.Searches.{has_few_values, threaded_words};
+ghost use Rattle.optplan_solver.specs.ThreadedSearches.{has_few_values, threaded_words};
 
 use fdr::FdrTask;
 use packed_spread::Zobrist;

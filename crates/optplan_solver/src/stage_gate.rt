@@ -75,7 +75,7 @@ impl<'g, R: Clock, G: Gate> StageGate<'g, R, G> {
 
 impl<'g, R: Clock, G: Gate> Gate for StageGate<'g, R, G> {
     ghost use Rattle.std.specs.Prelude.{is_some};
-    ghost use Rattle.optplan_solver.specs.Searches.{stops_in};
+    ghost use Rattle.optplan_solver.specs.ThreadedSearches.{stops_in};
 
     ghost may_stop = { λ g worker turn stop. stops_in (is_some g.share) (G.may_stop g.gate.now) worker turn stop };
 

@@ -5,18 +5,14 @@ ghost use Rattle.std.specs.Option.{option_map};
 ghost use Rattle.cost.specs.Distances.{Distance};
 ghost use Rattle.fdr.specs.Tasks.{ranges};
 ghost use Rattle.packed_spread.specs.Spreads.{zobrist_owner};
-ghost use Rattle.optplan_solver.specs.Findings.{plain, IsOwnFinding, IsSettledEnd};
-ghost use Rattle.optplan_solver.specs.Searches.{IsThreadedSpace, EndsIn, IsRefusedIn, stops_in};
+ghost use Rattle.optplan_search.specs.Findings.{plain, IsOwnFinding, IsSettledEnd};
+ghost use Rattle.optplan_solver.specs.ThreadedSearches.{IsThreadedSpace, EndsIn, IsRefusedIn, stops_in};
 ghost use Rattle.scp.specs.Partitions.{mappings_of};
 ghost use Rattle.scp_orders.specs.Orders.{AreOrders};
-ghost use Rattle.optplan_solver.specs.Stages.{IsKnownOf, IsFoundAt, IsSearchFound, IsStageFound};
+ghost use Rattle.optplan_solver.specs.Stages.{IsKnownOf, IsFoundAt, IsFoundWhenStopped, IsSearchFound, IsStageFound};
 
-use crate::answer::SoFar;
-use crate::fault::SearchFault;
-use crate::found::{Found, FoundPlan, found_by, so_far_of};
 use crate::kinds::copied_wanted;
 use crate::known::{better_known, with_known};
-use crate::searching::space_for;
 use crate::spread::threaded_spread;
 use crate::stage_gate::StageGate;
 use abstraction_mapping::Mapping;
@@ -25,6 +21,7 @@ use engine::{Cause, EndingGate, EngineFault, Gate, Searched, search};
 use extract::Joined;
 use fdr::FdrTask;
 use optplan_options::{Options, STAGES, Tables};
+use optplan_search::{Found, FoundPlan, SearchFault, SoFar, found_by, so_far_of, space_for};
 use owner::Space;
 use packed::{StateForm, in_smallest_form};
 use packed_spread::Zobrist;
@@ -93,6 +90,30 @@ fn found_at<'a, R: Threads + Sync, F: StateForm + Drop>(
     Ok(StageFound::Answered(found))
 }
 
+/// Returns the result of a search that was stopped for this reason: what it has found, or, if its stage ended, what it
+/// knows, with the orders of the mappings of its columns.
+fn stopped_at<'a, R: Threads + Sync, F: StateForm + Drop, G: Gate>(
+    rt: &R,
+    alloc: Global,
+    joined: &Joined<'a, Zobrist<'a>, F>,
+    cause: Cause,
+    options: &Options,
+    wanted: &Option<CertificateKind>,
+    gate: &G,
+) -> Result<StageFound, AllocError>
+    requires { (at : Distance) → IsSettledEnd zobrist_owner joined.now at → ⊥ }
+    ensures { IfOk result (IsFoundWhenStopped options.now (G.may_stop gate.now) (option_map plain wanted.now) joined.now cause) }
+{
+    match cause {
+        Cause::Limit | Cause::Gate => found_at(rt, alloc, joined, wanted),
+        Cause::Stage => {
+            let known = known_at(rt, alloc, joined, options, wanted, gate)?;
+            let orders = orders_of(alloc, joined.space().columns())?;
+            Ok(StageFound::Ended(known, orders))
+        }
+    }
+}
+
 /// Returns the result of a multi-threaded search, for states of the form `F`.
 fn by_threads<
     'a,
@@ -115,12 +136,8 @@ fn by_threads<
     let (workers, capacity) = (options.workers(), options.ring());
     match search::<R, Zobrist<'a>, F, G>(rt, alloc, space, workers, capacity, gate) {
         Ok(Searched::Settled(joined)) => Ok(found_at(rt, alloc, &joined, wanted)?),
-        Ok(Searched::Stopped(joined, Cause::Limit)) => Ok(found_at(rt, alloc, &joined, wanted)?),
-        Ok(Searched::Stopped(joined, Cause::Gate)) => Ok(found_at(rt, alloc, &joined, wanted)?),
-        Ok(Searched::Stopped(joined, Cause::Stage)) => {
-            let known = known_at(rt, alloc, &joined, options, wanted, gate)?;
-            let orders = orders_of(alloc, space.columns())?;
-            Ok(StageFound::Ended(known, orders))
+        Ok(Searched::Stopped(joined, cause)) => {
+            Ok(stopped_at(rt, alloc, &joined, cause, options, wanted, gate)?)
         }
         Err(EngineFault::OutOfMemory) => Err(SearchFault::OutOfMemory),
         Err(EngineFault::TotalTooLarge) => Err(SearchFault::TotalTooLarge),

@@ -1,6 +1,5 @@
 -- Operands and options that are added to a command one after the other.
 use Rattle.std.proofs.Common.{◌≡◌, ◌∙◌, ap, subst, List, [], ◌∷◌, ◌++◌, append_assoc, false, ◌||◌}
-use Rattle.std.specs.Prelude.{Bool}
 use Rattle.clap.specs.Words.{App, Rule, Shape, AddsSubcommand, app_of, rule_of, shape_of, with_subcommand}
 use Rattle.clap.specs.declared.builder.arg.Arg.{Arg}
 use Rattle.clap.specs.declared.builder.command.Command.{Command}

@@ -1,2 +1,4 @@
 pub mod Simple
 pub mod Adding
+pub mod PlainArguments
+pub mod FileRequests

@@ -26,7 +26,7 @@ use Rattle.pddl_syntax.specs.Sections.{Part}
 use Rattle.pddl_syntax.specs.Parameters.{parameter_names, parameter_types}
 use Rattle.pddl_syntax.proofs.Firsts.{none_kept}
 use Rattle.pddl_terms.specs.declared.beginning.Beginning.{Beginning}
-use Rattle.pddl_terms.specs.declared.beginning.Beginning.TheVariants.{Conjunction, Negation, Equality, Increasing, Unread, Atom as PredicateHead, NoName}
+use Rattle.pddl_terms.specs.declared.beginning.Beginning.TheVariants.{Conjunction, Negation, Equality, GoalEquality, Increasing, Unread, Atom as PredicateHead, NoName}
 use Rattle.pddl_terms.specs.declared.beginning.Setting.TheVariants.{InEffect}
 use Rattle.pddl_terms.specs.Beginnings.{beginning}
 use Rattle.pddl_terms.specs.Terms.{Scope, lifted, is_total_cost, not_empty}
@@ -151,6 +151,7 @@ group_small scope f Conjunction inner h = h
 group_small scope f Increasing inner h = amount_small scope (behind f)
 group_small scope f Negation inner h = refl
 group_small scope f Equality inner h = refl
+group_small scope f GoalEquality inner h = refl
 group_small scope f Unread inner h = refl
 group_small scope f PredicateHead inner h = refl
 group_small scope f NoName inner h = refl
@@ -175,6 +176,7 @@ group_few scope f s Conjunction inner at h = h
 group_few scope f s Increasing inner at h = one_at_most (increase_of scope f)
 group_few scope f s Negation inner at h = omega arith
 group_few scope f s Equality inner at h = omega arith
+group_few scope f s GoalEquality inner at h = omega arith
 group_few scope f s Unread inner at h = omega arith
 group_few scope f s PredicateHead inner at h = omega arith
 group_few scope f s NoName inner at h = omega arith

@@ -1,6 +1,6 @@
 //! The parts of an action after its name: keywords, each with a list.
 
-ghost use Rattle.std.specs.Prelude.{◌≡◌, ◌++◌, ℕ, List, Option, map, find, None, [], option_to_list, IfOk, OnOk};
+ghost use Rattle.std.specs.Prelude.{◌≡◌, ◌++◌, ℕ, List, Option, map, None, [], option_to_list, IfOk, OnOk};
 ghost use Rattle.std.specs.Option.{option_map};
 ghost use Rattle.sexp.specs.Forms.{Forms, before, views, alone};
 ghost use Rattle.pddl_syntax.specs.Faults.{first_of};
@@ -45,17 +45,6 @@ fn keyword_of(word: &str) -> Option<Keyword>
         Some(Keyword::Effect)
     } else {
         None
-    }
-}
-
-fn is_same(keyword: Keyword, other: Keyword) -> bool
-    ensures { result ≡ spec.same_keyword keyword other }
-{
-    match (keyword, other) {
-        (Keyword::Parameters, Keyword::Parameters)
-        | (Keyword::Precondition, Keyword::Precondition)
-        | (Keyword::Effect, Keyword::Effect) => true,
-        _ => false,
     }
 }
 
@@ -193,18 +182,6 @@ pub fn parts<'a>(
         blame(first, home, FaultKind::Shape);
     }
     Ok(list.parts)
-}
-
-/// Returns the first part with this keyword, or `None` if there is none.
-pub fn find_part<'a>(parts: &[Part<'a>], keyword: Keyword) -> Option<Part<'a>>
-    ensures { option_map spec.part_of result ≡ find (λ p. spec.same_keyword p.keyword keyword) (map spec.part_of parts.now) }
-{
-    for part in parts {
-        if is_same(part.keyword, keyword) {
-            return Some(*part);
-        }
-    }
-    None
 }
 
 /// Returns the items of a list, or no items for a word.

@@ -5,6 +5,7 @@
 
 mod action;
 mod keyword;
+mod schema;
 mod scope;
 
 pub use action::{Actions, read_actions};

@@ -1,108 +1,75 @@
--- Steps through the items of predicates and of functions.
-use Rattle.std.proofs.lemmas.List.{take_rest}
-use Rattle.std.proofs.Common.{◌≡◌, ◌≤◌, ◌-◌, ◌+◌, length, take, drop, get_or, arith, ℕ, Bool, true, false, List, ◌∷◌, ◌++◌, refl, sym, ap, ◌∙◌, if◌then◌else◌}
-use Rattle.std.specs.Prelude.{Option, Result, Ok, Err, OnOk}
+-- Steps through the lists of predicates and of functions.
+use Rattle.std.proofs.Common.{◌≡◌, ◌≤◌, ◌+◌, arith, ℕ, Bool, true, false, List, [], ◌∷◌, ◌++◌, refl, sym, ap, ◌∙◌, if◌then◌else◌}
+use Rattle.std.specs.Prelude.{Option, Result, Ok, Err, OnOk, nat_le}
 use Rattle.sexp.specs.declared.tree.Tree.{Tree}
-use Rattle.sexp.specs.Forms.{Forms, word, group, before, views}
+use Rattle.sexp.specs.Forms.{Forms, none, word, group, before}
 use Rattle.pddl_syntax.specs.declared.fault.Fault.{Fault}
-use Rattle.pddl_syntax.specs.declared.fault.FaultKind.TheVariants.{Shape}
+use Rattle.pddl_syntax.specs.declared.fault.FaultKind.TheVariants.{Shape, Limit}
+use Rattle.pddl_syntax.specs.declared.fault.LimitedTable.{LimitedTable}
 use Rattle.pddl_syntax.specs.declared.fault.LimitedTable.TheVariants.{Predicates, Functions}
-use Rattle.pddl_syntax.specs.Faults.{fault, first_of, earlier}
+use Rattle.pddl_syntax.specs.Faults.{fault, faults_if, first_of}
 use Rattle.pddl_syntax.specs.Words.{word_kind}
 use Rattle.pddl_syntax.specs.Heads.{Heads}
-use Rattle.pddl_syntax.proofs.Trees.{first_of_cons, noted, at_tree, views_at}
-use Rattle.pddl_domain.specs.DeclaredHeads.{with_item, past_limit, item_faults, is_equals, predicate_heads, predicates_faults, function_heads, heads_behind, functions_faults}
+use Rattle.pddl_syntax.proofs.Trees.{noted, at_tree}
+use Rattle.pddl_domain.specs.DeclaredHeads.{with_item, with_list, past_limit, item_faults, list_faults, count_after, has_equals, empty_after, predicate_heads, predicates_faults, function_heads, heads_behind, functions_faults}
 
--- a head that is a list, behind some items
-list_head : (first counted new : Option Fault) (hs : ℕ) (limit : List Fault → List Fault) → ((fs : List Fault) → first_of first (limit fs) ≡ first_of counted fs) → new ≡ earlier counted (fault Shape hs)
-    → (fs : List Fault) → first_of first (limit (fault Shape hs ∷ fs)) ≡ first_of new fs
-list_head first counted new hs limit limited e fs =
-    limited (fault Shape hs ∷ fs) ∙ first_of_cons counted (fault Shape hs) fs ∙ ap (λ (k : Option Fault). first_of k fs) (sym e)
+if_append : (b : Bool) (f : Fault) (fs gs : List Fault) → faults_if b f (fs ++ gs) ≡ faults_if b f fs ++ gs
+if_append true f fs gs = refl
+if_append false f fs gs = refl
 
-module _ (known : List ℕ → Bool) (heads new_heads : Heads) (count new_count : ℕ) (first new : Option Fault) (at end hs he : ℕ) (inner rest : Forms) where
+module _ (known : List ℕ → Bool) (heads : Heads) (count at end : ℕ) where
   -- ---- predicates
 
-  pub equals_heads : (t : List ℕ) (i : Forms) → inner ≡ word hs he t i → is_equals t ≡ true → predicate_heads heads (group at end inner rest) ≡ predicate_heads heads rest
-  equals_heads t i is skipped =
-      ap (λ (f : Forms). predicate_heads heads (group at end f rest)) is
-      ∙ ap (λ (b : Bool). predicate_heads (if b then heads else with_item (word_kind t) heads t i) rest) skipped
+  pub equals_heads : (i rest : Forms) → has_equals i ≡ true → predicate_heads heads (group at end i rest) ≡ predicate_heads heads rest
+  equals_heads none rest skipped = refl
+  equals_heads (word hs he t i) rest skipped = ap (λ (b : Bool). predicate_heads (if b then heads else with_item (word_kind t) heads t i) rest) skipped
+  equals_heads (group hs he head i) rest skipped = refl
 
-  pub equals_faults : (t : List ℕ) (i : Forms) → inner ≡ word hs he t i → is_equals t ≡ true
-      → first_of first (predicates_faults known heads count (group at end inner rest)) ≡ first_of first (predicates_faults known heads count rest)
-  equals_faults t i is skipped =
-      ap (λ (f : Forms). first_of first (predicates_faults known heads count (group at end f rest))) is
-      ∙ ap (λ (b : Bool). first_of first (if b then predicates_faults known heads count rest
-      else item_faults known Predicates heads count at hs (word_kind t) t i ++ predicates_faults known (with_item (word_kind t) heads t i) (count + 1) rest)) skipped
+  pub equals_faults : (i rest : Forms) → has_equals i ≡ true → predicates_faults known heads count (group at end i rest) ≡ predicates_faults known heads count rest
+  equals_faults none rest skipped = absurd cc
+  equals_faults (word hs he t i) rest skipped =
+      ap (λ (b : Bool). if b then predicates_faults known heads count rest
+      else item_faults known Predicates heads count at hs (word_kind t) t i ++ predicates_faults known (with_item (word_kind t) heads t i) (count + 1) rest) skipped
+  equals_faults (group hs he head i) rest skipped = absurd cc
 
-  pub predicate_item_heads : (t : List ℕ) (i : Forms) → inner ≡ word hs he t i → is_equals t ≡ false → new_heads ≡ with_item (word_kind t) heads t i
-      → predicate_heads heads (group at end inner rest) ≡ predicate_heads new_heads rest
-  predicate_item_heads t i is other heads_are =
-      ap (λ (f : Forms). predicate_heads heads (group at end f rest)) is
-      ∙ ap (λ (b : Bool). predicate_heads (if b then heads else with_item (word_kind t) heads t i) rest) other
-      ∙ ap (λ (h : Heads). predicate_heads h rest) (sym heads_are)
+  pub predicate_heads_step : (i rest : Forms) → has_equals i ≡ false → predicate_heads heads (group at end i rest) ≡ predicate_heads (with_list heads i) rest
+  predicate_heads_step none rest other = refl
+  predicate_heads_step (word hs he t i) rest other = ap (λ (b : Bool). predicate_heads (if b then heads else with_item (word_kind t) heads t i) rest) other
+  predicate_heads_step (group hs he head i) rest other = refl
 
-  pub predicate_item_faults : (t : List ℕ) (i : Forms) → inner ≡ word hs he t i → is_equals t ≡ false → new_heads ≡ with_item (word_kind t) heads t i → new_count ≡ count + 1
-      → new ≡ first_of first (item_faults known Predicates heads count at hs (word_kind t) t i)
-      → first_of first (predicates_faults known heads count (group at end inner rest)) ≡ first_of new (predicates_faults known new_heads new_count rest)
-  predicate_item_faults t i is other heads_are counted e =
-      let fs = item_faults known Predicates heads count at hs (word_kind t) t i in
-      ap (λ (f : Forms). first_of first (predicates_faults known heads count (group at end f rest))) is
-      ∙ ap (λ (b : Bool). first_of first (if b then predicates_faults known heads count rest else fs ++ predicates_faults known (with_item (word_kind t) heads t i) (count + 1) rest)) other
-      ∙ noted first new fs (predicates_faults known (with_item (word_kind t) heads t i) (count + 1) rest) e
-      ∙ ap (λ (h : Heads). first_of new (predicates_faults known h (count + 1) rest)) (sym heads_are)
-      ∙ ap (λ (n : ℕ). first_of new (predicates_faults known new_heads n rest)) (sym counted)
-
-  pub predicate_list_heads : (head i : Forms) → inner ≡ group hs he head i → new_heads ≡ heads → predicate_heads heads (group at end inner rest) ≡ predicate_heads new_heads rest
-  predicate_list_heads head i is heads_are =
-      ap (λ (f : Forms). predicate_heads heads (group at end f rest)) is ∙ ap (λ (h : Heads). predicate_heads h rest) (sym heads_are)
-
-  pub predicate_list_faults : (head i : Forms) → inner ≡ group hs he head i → new_heads ≡ heads → new_count ≡ count + 1 → (counted : Option Fault)
-      → ((fs : List Fault) → first_of first (past_limit Predicates count at fs) ≡ first_of counted fs) → new ≡ earlier counted (fault Shape hs)
-      → first_of first (predicates_faults known heads count (group at end inner rest)) ≡ first_of new (predicates_faults known new_heads new_count rest)
-  predicate_list_faults head i is heads_are count_is counted limited e =
-      ap (λ (f : Forms). first_of first (predicates_faults known heads count (group at end f rest))) is
-      ∙ list_head first counted new hs (past_limit Predicates count at) limited e (predicates_faults known heads (count + 1) rest)
-      ∙ ap (λ (h : Heads). first_of new (predicates_faults known h (count + 1) rest)) (sym heads_are)
-      ∙ ap (λ (n : ℕ). first_of new (predicates_faults known new_heads n rest)) (sym count_is)
+  pub predicate_faults_step : (i rest : Forms) → has_equals i ≡ false
+      → predicates_faults known heads count (group at end i rest)
+      ≡ list_faults known Predicates heads count at i ++ predicates_faults known (with_list heads i) (count_after count i) rest
+  predicate_faults_step none rest other = refl
+  predicate_faults_step (word hs he t i) rest other =
+      ap (λ (b : Bool). if b then predicates_faults known heads count rest
+      else item_faults known Predicates heads count at hs (word_kind t) t i ++ predicates_faults known (with_item (word_kind t) heads t i) (count + 1) rest) other
+  predicate_faults_step (group hs he head i) rest other =
+      if_append (nat_le 512 count) (fault (Limit Predicates) at) (fault Shape hs ∷ []) (predicates_faults known heads (count + 1) rest)
 
   -- ---- functions
 
-  pub function_item_heads : (t : List ℕ) (i : Forms) → inner ≡ word hs he t i → new_heads ≡ with_item (word_kind t) heads t i
-      → function_heads heads (group at end inner rest) ≡ function_heads new_heads rest
-  function_item_heads t i is heads_are =
-      ap (λ (f : Forms). function_heads heads (group at end f rest)) is ∙ ap (λ (h : Heads). function_heads h rest) (sym heads_are)
+  pub function_heads_step : (i rest : Forms) → function_heads heads (group at end i rest) ≡ function_heads (with_list heads i) rest
+  function_heads_step none rest = refl
+  function_heads_step (word hs he t i) rest = refl
+  function_heads_step (group hs he head i) rest = refl
 
-  pub function_item_faults : (home : ℕ) (empty : Bool) (t : List ℕ) (i : Forms) → inner ≡ word hs he t i → new_heads ≡ with_item (word_kind t) heads t i → new_count ≡ count + 1
-      → new ≡ first_of first (item_faults known Functions heads count at hs (word_kind t) t i)
-      → first_of first (functions_faults known home empty heads count (group at end inner rest)) ≡ first_of new (functions_faults known home false new_heads new_count rest)
-  function_item_faults home empty t i is heads_are counted e =
-      ap (λ (f : Forms). first_of first (functions_faults known home empty heads count (group at end f rest))) is
-      ∙ noted first new (item_faults known Functions heads count at hs (word_kind t) t i) (functions_faults known home false (with_item (word_kind t) heads t i) (count + 1) rest) e
-      ∙ ap (λ (h : Heads). first_of new (functions_faults known home false h (count + 1) rest)) (sym heads_are)
-      ∙ ap (λ (n : ℕ). first_of new (functions_faults known home false new_heads n rest)) (sym counted)
+  pub function_faults_step : (home : ℕ) (empty : Bool) (i rest : Forms)
+      → functions_faults known home empty heads count (group at end i rest)
+      ≡ list_faults known Functions heads count at i ++ functions_faults known home (empty_after empty i) (with_list heads i) (count_after count i) rest
+  function_faults_step home empty none rest = refl
+  function_faults_step home empty (word hs he t i) rest = refl
+  function_faults_step home empty (group hs he head i) rest =
+      if_append (nat_le 512 count) (fault (Limit Functions) at) (fault Shape hs ∷ []) (functions_faults known home false heads (count + 1) rest)
 
-  pub function_list_heads : (head i : Forms) → inner ≡ group hs he head i → new_heads ≡ heads → function_heads heads (group at end inner rest) ≡ function_heads new_heads rest
-  function_list_heads head i is heads_are =
-      ap (λ (f : Forms). function_heads heads (group at end f rest)) is ∙ ap (λ (h : Heads). function_heads h rest) (sym heads_are)
+pub not_empty_after : (empty : Bool) (t : Tree) (rest : Forms) → empty_after empty (before t rest) ≡ false
+not_empty_after empty = at_tree (λ f rest. empty_after empty f ≡ false) (λ s e text rest. refl) (λ s e inner rest. refl)
 
-  pub function_list_faults : (home : ℕ) (empty : Bool) (head i : Forms) → inner ≡ group hs he head i → new_heads ≡ heads → new_count ≡ count + 1 → (counted : Option Fault)
-      → ((fs : List Fault) → first_of first (past_limit Functions count at fs) ≡ first_of counted fs) → new ≡ earlier counted (fault Shape hs)
-      → first_of first (functions_faults known home empty heads count (group at end inner rest)) ≡ first_of new (functions_faults known home false new_heads new_count rest)
-  function_list_faults home empty head i is heads_are count_is counted limited e =
-      ap (λ (f : Forms). first_of first (functions_faults known home empty heads count (group at end f rest))) is
-      ∙ list_head first counted new hs (past_limit Functions count at) limited e (functions_faults known home false heads (count + 1) rest)
-      ∙ ap (λ (h : Heads). first_of new (functions_faults known home false h (count + 1) rest)) (sym heads_are)
-      ∙ ap (λ (n : ℕ). first_of new (functions_faults known home false new_heads n rest)) (sym count_is)
+pub at_most_one : (count new : ℕ) (f : Forms) → new ≡ count_after count f → new ≤ count + 1
+at_most_one count new none e = omega arith
+at_most_one count new (word s e t f) is = omega arith
+at_most_one count new (group s e i f) is = omega arith
 
 -- one tree is stepped over behind a hyphen
 pub behind_number : (heads : Heads) (t : Tree) (rest : Forms) → heads_behind heads (before t rest) ≡ function_heads heads rest
 behind_number heads = at_tree (λ f rest. heads_behind heads f ≡ function_heads heads rest) (λ s e text rest. refl) (λ s e inner rest. refl)
-
-pub on_ok_2 : {A E : Type 0} (r : Result A E) (P Q S : Type 0) → (P → Q → S) → OnOk r P → OnOk r Q → OnOk r S
-on_ok_2 (Ok x) P Q S f p q = f p q
-on_ok_2 (Err e) P Q S f p q = tt
-
--- the first tree of a list and the slice behind it
-pub views_split : (ts : List Tree) (t : Tree) → 1 ≤ length ts → t ≡ get_or ts 0 t → views ts ≡ before t (views (take (length ts - 1) (drop 1 ts)))
-views_split ts t some is =
-    views_at ts 0 t (omega (arith, some)) is ∙ ap (λ (rest : List Tree). before t (views rest)) (sym (take_rest ts 1))

@@ -110,6 +110,38 @@ abbrev mutual
   faults_behind known home heads count (word s e t f) = number_faults s t (functions_faults known home true heads count f)
   faults_behind known home heads count (group s e i f) = type_group_faults s i ++ functions_faults known home true heads count f
 
+-- ---- a list in either section, by the expressions in it
+
+-- the heads with that of the list, if it is an item
+abbrev pub with_list : Heads → Forms → Heads
+with_list heads none = heads
+with_list heads (word hs he t i) = with_item (word_kind t) heads t i
+with_list heads (group hs he head i) = heads
+
+-- the number of items counted, after the list
+abbrev pub count_after : ℕ → Forms → ℕ
+count_after count none = count
+count_after count (word hs he t i) = count + 1
+count_after count (group hs he head i) = count + 1
+
+-- the faults of the list, which is at offset `at`
+abbrev pub list_faults : (List ℕ → Bool) → LimitedTable → Heads → ℕ → ℕ → Forms → List Fault
+list_faults known table heads count at none = fault Shape at ∷ []
+list_faults known table heads count at (word hs he t i) = item_faults known table heads count at hs (word_kind t) t i
+list_faults known table heads count at (group hs he head i) = past_limit table count at (fault Shape hs ∷ [])
+
+-- the head is `=`
+abbrev pub has_equals : Forms → Bool
+has_equals none = false
+has_equals (word hs he t i) = is_equals t
+has_equals (group hs he head i) = false
+
+-- whether a run is empty after the list
+abbrev pub empty_after : Bool → Forms → Bool
+empty_after empty none = empty
+empty_after empty (word hs he t i) = false
+empty_after empty (group hs he head i) = false
+
 -- ---- the state of the code: whether an item or a type comes next
 
 -- the heads with those of the remaining items; the flag says whether a type comes next

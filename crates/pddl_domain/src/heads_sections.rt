@@ -7,14 +7,14 @@ ghost use Rattle.pddl_syntax.specs.declared.fault.Fault.{Fault};
 ghost use Rattle.pddl_syntax.specs.Faults.{first_of};
 ghost use Rattle.pddl_syntax.specs.Words.{word_kind};
 ghost use Rattle.pddl_syntax.specs.Heads.{no_heads, Heads as DeclaredHeads};
-ghost use Rattle.pddl_syntax.specs.Typed.{declared, is_either, either_at, type_group_faults};
+ghost use Rattle.pddl_syntax.specs.Typed.{declared};
 ghost use Rattle.pddl_syntax.specs.Parameters.{parameters_faults};
 ghost use Rattle.pddl_domain.specs.DeclaredHeads as spec;
-ghost use Rattle.pddl_domain.specs.DeclaredHeads.{with_item, past_limit, item_faults, predicate_heads, predicates_faults, function_heads, functions_faults, faults_behind, heads_from, faults_from};
+ghost use Rattle.pddl_domain.specs.DeclaredHeads.{with_item, with_list, past_limit, item_faults, list_faults, count_after, predicate_heads, predicates_faults, function_heads, functions_faults, faults_behind, heads_from, faults_from};
 
 use pddl_syntax::{
     Fault, FaultKind, Heads, LimitedTable, Parameters, Types, WordKind, blame, blame_if,
-    parameters_list, word_kind,
+    blame_type_list, parameters_list, word_kind,
 };
 use sexp::Tree;
 use std::alloc::{AllocError, Global};
@@ -34,14 +34,9 @@ struct Item<'a> {
 /// The predicates or functions read so far, and the number of items counted.
 #[derive(Drop)]
 struct Declarations {
+    alloc: Global,
     heads: Heads,
     count: usize,
-}
-
-fn is_equals(head: &str) -> bool
-    ensures { result ≡ spec.is_equals head.now }
-{
-    head == "="
 }
 
 impl Declarations {
@@ -50,6 +45,7 @@ impl Declarations {
         ensures count { result.count ≡ 0 }
     {
         Declarations {
+            alloc,
             heads: Heads::new(alloc),
             count: 0,
         }
@@ -93,7 +89,6 @@ impl Declarations {
     #[tactic(auto, unfolding(pddl_syntax::specs::Faults::first_of))]
     fn read_item(
         &mut self,
-        alloc: Global,
         types: &Types,
         table: LimitedTable,
         item: Item,
@@ -106,11 +101,47 @@ impl Declarations {
             item.entry.at item.entry.head_at (word_kind item.entry.head.now) item.entry.head.now (views item.entry.parameters.now))) }
     {
         self.count_head(table, item, first);
-        let arity = arity_of(alloc, item.parameters, types, item.at, first)?;
+        let arity = arity_of(self.alloc, item.parameters, types, item.at, first)?;
         if word_kind(item.head) != WordKind::Name {
             return Ok(());
         }
-        self.heads.add(alloc, item.head, arity)
+        self.heads.add(self.alloc, item.head, arity)
+    }
+
+    /// Reads the list at `at`, whose items are `items`, and records its faults.
+    #[tactic(auto, using(sexp::proofs::Walking::walking, pddl_syntax::proofs::Trees::noting), unfolding(pddl_syntax::specs::Faults::first_of))]
+    fn read_list(
+        &mut self,
+        types: &Types,
+        table: LimitedTable,
+        items: &[Tree],
+        at: usize,
+        first: &mut Option<Fault>,
+    ) -> Result<(), AllocError>
+        requires { self.old.count < usize.MAX }
+        ensures heads { OnOk result (self.new.heads ≡ with_list self.old.heads (views items.now)) }
+        ensures count { OnOk result (self.new.count ≡ count_after self.old.count (views items.now)) }
+        ensures faults { OnOk result (first.new ≡ first_of first.old (list_faults (is_there types.now.names) table self.old.heads self.old.count at (views items.now))) }
+    {
+        match items {
+            [] => blame(first, at, FaultKind::Shape),
+            [head, parameters @ ..] => match head {
+                Tree::Word { text, span } => {
+                    let item = Item {
+                        at,
+                        head_at: span.start,
+                        head: text.as_str(),
+                        parameters,
+                    };
+                    self.read_item(types, table, item, first)?;
+                }
+                Tree::List { items: _, span } => {
+                    self.count_item(table, at, first);
+                    blame(first, span.start, FaultKind::Shape);
+                }
+            },
+        }
+        Ok(())
     }
 }
 
@@ -137,74 +168,22 @@ fn arity_of(
 
 // ---- predicates
 
-/// Reads an item of the predicates that has a head.
-fn read_predicate_head(
-    alloc: Global,
-    types: &Types,
-    predicates: &mut Declarations,
-    head: &Tree,
-    parameters: &[Tree],
-    at: usize,
-    first: &mut Option<Fault>,
-) -> Result<(), AllocError>
-    requires { predicates.old.count < usize.MAX }
-    ensures count { OnOk result (predicates.new.count ≤ predicates.old.count + 1) }
-    ensures heads { OnOk result ((end : ℕ) (rest : Forms) → predicate_heads predicates.old.heads (group at end (before head.now (views parameters.now)) rest) ≡ predicate_heads predicates.new.heads rest) }
-    ensures faults { OnOk result ((end : ℕ) (rest : Forms) → first_of first.old (predicates_faults (is_there types.now.names) predicates.old.heads predicates.old.count (group at end (before head.now (views parameters.now)) rest))
-        ≡ first_of first.new (predicates_faults (is_there types.now.names) predicates.new.heads predicates.new.count rest)) }
-{
-    match head {
-        Tree::Word { text, span } => {
-            let name = text.as_str();
-            if is_equals(name) {
-                return Ok(());
-            }
-            let item = Item {
-                at,
-                head_at: span.start,
-                head: name,
-                parameters,
-            };
-            predicates.read_item(alloc, types, LimitedTable::Predicates, item, first)
-        }
-        Tree::List { items: _, span } => {
-            predicates.count_item(LimitedTable::Predicates, at, first);
-            blame(first, span.start, FaultKind::Shape);
-            Ok(())
-        }
-    }
-}
-
-/// Reads an item of the predicates that is a list.
-#[tactic(auto, unfolding(pddl_syntax::specs::Faults::first_of))]
-fn read_predicate(
-    alloc: Global,
-    types: &Types,
-    predicates: &mut Declarations,
-    items: &[Tree],
-    at: usize,
-    first: &mut Option<Fault>,
-) -> Result<(), AllocError>
-    requires { predicates.old.count < usize.MAX }
-    ensures count { OnOk result (predicates.new.count ≤ predicates.old.count + 1) }
-    ensures heads { OnOk result ((end : ℕ) (rest : Forms) → predicate_heads predicates.old.heads (group at end (views items.now) rest) ≡ predicate_heads predicates.new.heads rest) }
-    ensures faults { OnOk result ((end : ℕ) (rest : Forms) → first_of first.old (predicates_faults (is_there types.now.names) predicates.old.heads predicates.old.count (group at end (views items.now) rest))
-        ≡ first_of first.new (predicates_faults (is_there types.now.names) predicates.new.heads predicates.new.count rest)) }
+/// Returns whether a list with these items has the head `=`.
+#[tactic(auto, using(sexp::proofs::Walking::walking))]
+fn has_equals(items: &[Tree]) -> bool
+    ensures { result ≡ spec.has_equals (views items.now) }
 {
     match items {
-        [] => {
-            blame(first, at, FaultKind::Shape);
-            Ok(())
-        }
-        [head, parameters @ ..] => read_predicate_head(
-            alloc, types, predicates, head, parameters, at, first,
-        ),
+        [] => false,
+        [head, ..] => match head {
+            Tree::Word { text, .. } => text.as_str() == "=",
+            Tree::List { .. } => false,
+        },
     }
 }
 
 /// Reads the next item of the predicates.
 fn read_predicates_tree(
-    alloc: Global,
     types: &Types,
     predicates: &mut Declarations,
     tree: &Tree,
@@ -221,16 +200,19 @@ fn read_predicates_tree(
             blame(first, span.start, FaultKind::Shape);
             Ok(())
         }
-        Tree::List { items, span } => read_predicate(
-            alloc, types, predicates, items, span.start, first,
-        ),
+        Tree::List { items, span } => {
+            let items = items.as_slice();
+            if has_equals(items) {
+                return Ok(());
+            }
+            predicates.read_list(types, LimitedTable::Predicates, items, span.start, first)
+        }
     }
 }
 
 /// Reads the items of the predicates.
 #[tactic(auto, unfolding(pddl_syntax::specs::Faults::first_of))]
 fn read_predicates(
-    alloc: Global,
     types: &Types,
     predicates: &mut Declarations,
     items: &[Tree],
@@ -241,7 +223,7 @@ fn read_predicates(
     ensures faults { OnOk result (first.new ≡ first_of first.old (predicates_faults (is_there types.now.names) predicates.old.heads predicates.old.count (views items.now))) }
 {
     for tree in items {
-        read_predicates_tree(alloc, types, predicates, tree, first)?;
+        read_predicates_tree(types, predicates, tree, first)?;
     }
     Ok(())
 }
@@ -261,7 +243,7 @@ pub fn predicates_section(
     ensures faults { OnOk result (first.new ≡ first_of first.old (predicates_faults (is_there types.now.names) no_heads 0 (views items.now))) }
 {
     let mut predicates = Declarations::new(alloc);
-    read_predicates(alloc, types, &mut predicates, items, first)?;
+    read_predicates(types, &mut predicates, items, first)?;
     Ok(predicates.heads)
 }
 
@@ -282,46 +264,14 @@ fn is_number(text: &str) -> bool
     text == "number"
 }
 
-fn is_either(text: &str) -> bool
-    ensures { result ≡ is_either text.now }
-{
-    text == "either"
-}
-
-/// Returns the byte offset of the tree if it is the word `either`.
-fn either_at(tree: &Tree) -> Option<usize>
-    ensures { (rest : Forms) → result ≡ either_at (before tree.now rest) }
-{
-    match tree {
-        Tree::Word { text, span } => {
-            if is_either(text.as_str()) {
-                Some(span.start)
-            } else {
-                None
-            }
-        }
-        Tree::List { .. } => None,
-    }
-}
-
-fn head_either_at(items: &[Tree]) -> Option<usize>
-    ensures { result ≡ either_at (views items.now) }
+/// Returns whether a run that is empty so far or not (`empty`) is empty after a list with these items.
+#[tactic(auto, using(sexp::proofs::Walking::walking, crate::proofs::HeadItems::not_empty_after))]
+fn is_empty_after(empty: bool, items: &[Tree]) -> bool
+    ensures { result ≡ spec.empty_after empty (views items.now) }
 {
     match items {
-        [] => None,
-        [head, ..] => either_at(head),
-    }
-}
-
-/// Records the fault of a list in the position of `number`: F11 at the word `either` if that is its head, otherwise
-/// F10.
-#[tactic(auto, unfolding(pddl_syntax::specs::Faults::first_of))]
-fn blame_number_list(items: &[Tree], at: usize, first: &mut Option<Fault>)
-    ensures { first.new ≡ first_of first.old (type_group_faults at (views items.now)) }
-{
-    match head_either_at(items) {
-        Some(place) => blame(first, place, FaultKind::Unsupported),
-        None => blame(first, at, FaultKind::Shape),
+        [] => empty,
+        [_head, ..] => false,
     }
 }
 
@@ -337,7 +287,7 @@ fn blame_number(tree: &Tree, first: &mut Option<Fault>)
             span.start,
             FaultKind::Unsupported,
         ),
-        Tree::List { items, span } => blame_number_list(items, span.start, first),
+        Tree::List { items, span } => blame_type_list(items, span.start, first),
     }
 }
 
@@ -374,76 +324,9 @@ impl Functions {
         }
     }
 
-    /// Reads an item that has a head.
-    fn read_head(
-        &mut self,
-        alloc: Global,
-        types: &Types,
-        head: &Tree,
-        parameters: &[Tree],
-        at: usize,
-        first: &mut Option<Fault>,
-    ) -> Result<(), AllocError>
-        requires { self.old.declarations.count < usize.MAX }
-        ensures count { OnOk result (self.new.declarations.count ≤ self.old.declarations.count + 1) }
-        ensures wants { OnOk result (self.new.wants_number ≡ self.old.wants_number) }
-        ensures heads { OnOk result ((end : ℕ) (rest : Forms) → function_heads self.old.declarations.heads (group at end (before head.now (views parameters.now)) rest) ≡ function_heads self.new.declarations.heads rest) }
-        ensures faults { OnOk result ((home end : ℕ) (rest : Forms) →
-            first_of first.old (functions_faults (is_there types.now.names) home self.old.is_empty self.old.declarations.heads self.old.declarations.count (group at end (before head.now (views parameters.now)) rest))
-            ≡ first_of first.new (functions_faults (is_there types.now.names) home self.new.is_empty self.new.declarations.heads self.new.declarations.count rest)) }
-    {
-        self.is_empty = false;
-        match head {
-            Tree::Word { text, span } => {
-                let item = Item {
-                    at,
-                    head_at: span.start,
-                    head: text.as_str(),
-                    parameters,
-                };
-                self.declarations
-                    .read_item(alloc, types, LimitedTable::Functions, item, first)
-            }
-            Tree::List { items: _, span } => {
-                self.declarations
-                    .count_item(LimitedTable::Functions, at, first);
-                blame(first, span.start, FaultKind::Shape);
-                Ok(())
-            }
-        }
-    }
-
-    /// Reads a list in the position of an item.
-    #[tactic(auto, unfolding(pddl_syntax::specs::Faults::first_of))]
-    fn read_list(
-        &mut self,
-        alloc: Global,
-        types: &Types,
-        items: &[Tree],
-        at: usize,
-        first: &mut Option<Fault>,
-    ) -> Result<(), AllocError>
-        requires { self.old.declarations.count < usize.MAX }
-        ensures count { OnOk result (self.new.declarations.count ≤ self.old.declarations.count + 1) }
-        ensures wants { OnOk result (self.new.wants_number ≡ self.old.wants_number) }
-        ensures heads { OnOk result ((end : ℕ) (rest : Forms) → function_heads self.old.declarations.heads (group at end (views items.now) rest) ≡ function_heads self.new.declarations.heads rest) }
-        ensures faults { OnOk result ((home end : ℕ) (rest : Forms) →
-            first_of first.old (functions_faults (is_there types.now.names) home self.old.is_empty self.old.declarations.heads self.old.declarations.count (group at end (views items.now) rest))
-            ≡ first_of first.new (functions_faults (is_there types.now.names) home self.new.is_empty self.new.declarations.heads self.new.declarations.count rest)) }
-    {
-        match items {
-            [] => {
-                blame(first, at, FaultKind::Shape);
-                Ok(())
-            }
-            [head, parameters @ ..] => self.read_head(alloc, types, head, parameters, at, first),
-        }
-    }
-
     /// Reads the next tree of the section.
     fn read(
         &mut self,
-        alloc: Global,
         types: &Types,
         tree: &Tree,
         first: &mut Option<Fault>,
@@ -467,7 +350,12 @@ impl Functions {
                 self.read_word(text.as_str(), span.start, first);
                 Ok(())
             }
-            Tree::List { items, span } => self.read_list(alloc, types, items, span.start, first),
+            Tree::List { items, span } => {
+                let items = items.as_slice();
+                self.is_empty = is_empty_after(self.is_empty, items);
+                self.declarations
+                    .read_list(types, LimitedTable::Functions, items, span.start, first)
+            }
         }
     }
 
@@ -475,7 +363,6 @@ impl Functions {
     #[tactic(auto, unfolding(pddl_syntax::specs::Faults::first_of))]
     fn read_all(
         &mut self,
-        alloc: Global,
         types: &Types,
         items: &[Tree],
         home: usize,
@@ -487,7 +374,7 @@ impl Functions {
             (faults_from self.old.wants_number (is_there types.now.names) home self.old.is_empty self.old.declarations.heads self.old.declarations.count (views items.now))) }
     {
         for tree in items {
-            self.read(alloc, types, tree, first)?;
+            self.read(types, tree, first)?;
         }
         blame_if(self.wants_number, first, home, FaultKind::Shape);
         Ok(())
@@ -511,6 +398,6 @@ pub fn functions_section(
     ensures faults { OnOk result (first.new ≡ first_of first.old (functions_faults (is_there types.now.names) home true no_heads 0 (views items.now))) }
 {
     let mut functions = Functions::new(alloc);
-    functions.read_all(alloc, types, items, home, first)?;
+    functions.read_all(types, items, home, first)?;
     Ok(functions.declarations.heads)
 }

@@ -1,102 +1,128 @@
 //! Conditions.
 
-ghost use Rattle.std.specs.Prelude.{◌≡◌, ◌++◌, ℕ, OnOk, option_to_list};
-ghost use Rattle.sexp.specs.Forms.{Forms, before, views, group};
+ghost use Rattle.std.specs.Prelude.{◌≡◌, ◌++◌, ◌∷◌, [], map, OnOk, option_to_list};
+ghost use Rattle.sexp.specs.Forms.{Forms, before, views};
 ghost use Rattle.pddl_syntax.specs.Faults.{first_of};
 ghost use Rattle.pddl_effect.specs.Conditions as spec;
+ghost use Rattle.pddl_effect.specs.Literals.{literal_places};
 
 use crate::negation::{equality, negated};
 use pddl_syntax::{Fault, FaultKind, blame};
 use pddl_task::Condition;
-use pddl_terms::{Beginning, Scope, Setting, beginning_of, lifted};
+use pddl_terms::{Beginning, HeadedList, Reader, Setting, atom, beginning_of};
 use sexp::Tree;
 use std::alloc::{AllocError, Global};
 
-/// Adds the condition if there is one.
-fn keep(conditions: &mut Vec<Condition>, condition: Option<Condition>) -> Result<(), AllocError>
-    ensures { OnOk result (conditions.new.items ≡ conditions.old.items ++ option_to_list condition) }
-{
-    if let Some(condition) = condition {
-        conditions.push(condition)?;
-    }
-    Ok(())
+/// The conditions of an action or of a goal, in the order of the text.
+#[derive(Drop)]
+pub struct Conditions {
+    pub conditions: Vec<Condition>,
+    /// The byte offset of each condition.
+    pub places: Vec<usize>,
+    /// The byte offsets of all literals; those with a fault count too, although they are not among the conditions.
+    pub literals: Vec<usize>,
 }
 
-/// Reads a tree as a condition, adds its meaning to `conditions` and records its faults in `first`. On failure,
-/// conditions of a part of the tree may have been added.
-#[cycle(conditions)]
-#[tactic(auto, using(sexp::proofs::Walking::walking, pddl_syntax::proofs::Trees::noting, crate::proofs::Steps::appending), unfolding(pddl_syntax::specs::Faults::first_of))]
+impl Conditions {
+    /// Returns no conditions.
+    pub fn new(alloc: Global) -> Conditions
+        ensures conditions { result.conditions.items ≡ [] }
+        ensures places { result.places.items ≡ [] }
+        ensures literals { result.literals.items ≡ [] }
+    {
+        Conditions {
+            conditions: Vec::new(alloc),
+            places: Vec::new(alloc),
+            literals: Vec::new(alloc),
+        }
+    }
+
+    /// Adds the literal of the list at `at`, which has no condition if it has a fault.
+    fn add(&mut self, at: usize, condition: Option<Condition>) -> Result<(), AllocError>
+        ensures conditions { OnOk result (self.new.conditions.items ≡ self.old.conditions.items ++ option_to_list condition) }
+        ensures places { OnOk result (self.new.places.items ≡ self.old.places.items ++ map (λ c. at) (option_to_list condition)) }
+        ensures literals { OnOk result (self.new.literals.items ≡ self.old.literals.items ++ at ∷ []) }
+    {
+        self.literals.push(at)?;
+        if let Some(condition) = condition {
+            self.conditions.push(condition)?;
+            self.places.push(at)?;
+        }
+        Ok(())
+    }
+}
+
+/// Reads a tree as a condition of an action, adds its meaning to `conditions` and records its faults in `first`. On
+/// failure, conditions of a part of the tree may have been added.
 pub fn read_condition(
-    alloc: Global,
-    scope: &Scope,
+    reader: &Reader,
     tree: &Tree,
-    conditions: &mut Vec<Condition>,
+    conditions: &mut Conditions,
     first: &mut Option<Fault>,
 ) -> Result<(), AllocError>
-    ensures meaning { (rest : Forms) → OnOk result (conditions.old.items ++ spec.conditions scope.now (before tree.now rest) ≡ conditions.new.items ++ spec.conditions scope.now rest) }
-    ensures faults { (rest : Forms) → OnOk result (first_of first.old (spec.conditions_faults scope.now (before tree.now rest)) ≡ first_of first.new (spec.conditions_faults scope.now rest)) }
+    ensures meaning { (rest : Forms) → OnOk result (conditions.old.conditions.items ++ spec.conditions reader.now (before tree.now rest) ≡ conditions.new.conditions.items ++ spec.conditions reader.now rest) }
+    ensures literals { (rest : Forms) → OnOk result (conditions.old.literals.items ++ literal_places Setting.InCondition (before tree.now rest) ≡ conditions.new.literals.items ++ literal_places Setting.InCondition rest) }
+    ensures faults { (rest : Forms) → OnOk result (first_of first.old (spec.conditions_faults reader.now (before tree.now rest)) ≡ first_of first.new (spec.conditions_faults reader.now rest)) }
+{
+    read_condition_in(Setting::InCondition, reader, tree, conditions, first)
+}
+
+/// Reads a tree as a condition in a setting, which is that of conditions or that of goals, adds its meaning to
+/// `conditions` and records its faults in `first`. On failure, conditions of a part of the tree may have been added.
+#[cycle(conditions)]
+#[tactic(auto, using(sexp::proofs::Walking::walking, pddl_syntax::proofs::Trees::noting, crate::proofs::Steps::appending), unfolding(pddl_syntax::specs::Faults::first_of))]
+pub fn read_condition_in(
+    setting: Setting,
+    reader: &Reader,
+    tree: &Tree,
+    conditions: &mut Conditions,
+    first: &mut Option<Fault>,
+) -> Result<(), AllocError>
+    ensures meaning { (rest : Forms) → OnOk result (
+        conditions.old.conditions.items ++ spec.conditions_in setting reader.now (before tree.now rest) ≡ conditions.new.conditions.items ++ spec.conditions_in setting reader.now rest) }
+    ensures places { (rest : Forms) → OnOk result (
+        conditions.old.places.items ++ spec.condition_places setting reader.now (before tree.now rest) ≡ conditions.new.places.items ++ spec.condition_places setting reader.now rest) }
+    ensures literals { (rest : Forms) → OnOk result (
+        conditions.old.literals.items ++ literal_places setting (before tree.now rest) ≡ conditions.new.literals.items ++ literal_places setting rest) }
+    ensures faults { (rest : Forms) → OnOk result (
+        first_of first.old (spec.conditions_faults_in setting reader.now (before tree.now rest)) ≡ first_of first.new (spec.conditions_faults_in setting reader.now rest)) }
 {
     match tree {
         Tree::Word { span, .. } => blame(first, span.start, FaultKind::Shape),
         Tree::List { items, span } => match items.as_slice() {
             [] => {}
-            [head, parts @ ..] => headed(alloc, scope, parts, head, span.start, conditions, first)?,
-        },
-    }
-    Ok(())
-}
-
-/// Reads the list at `home` with this head.
-#[cycle(conditions)]
-#[tactic(auto, using(sexp::proofs::Walking::walking, pddl_syntax::proofs::Trees::noting, crate::proofs::Steps::appending), unfolding(pddl_syntax::specs::Faults::first_of))]
-fn headed(
-    alloc: Global,
-    scope: &Scope,
-    parts: &[Tree],
-    head: &Tree,
-    home: usize,
-    conditions: &mut Vec<Condition>,
-    first: &mut Option<Fault>,
-) -> Result<(), AllocError>
-    ensures meaning { (end : ℕ) (rest : Forms) → OnOk result (
-        conditions.old.items ++ spec.conditions scope.now (group home end (before head.now (views parts.now)) rest) ≡ conditions.new.items ++ spec.conditions scope.now rest) }
-    ensures faults { (end : ℕ) (rest : Forms) → OnOk result (
-        first_of first.old (spec.conditions_faults scope.now (group home end (before head.now (views parts.now)) rest)) ≡ first_of first.new (spec.conditions_faults scope.now rest)) }
-{
-    match head {
-        Tree::List { span, .. } => blame(first, span.start, FaultKind::Shape),
-        Tree::Word { text, span } => match beginning_of(Setting::InCondition, text.as_str()) {
-            Beginning::Conjunction => read_conditions(alloc, scope, parts, conditions, first)?,
-            Beginning::Equality => keep(conditions, equality(scope, true, home, parts, first))?,
-            Beginning::Negation => keep(
-                conditions,
-                negated(
-                    alloc,
-                    Setting::InCondition,
-                    scope,
-                    home,
-                    span.start,
-                    parts,
-                    first,
-                )?,
-            )?,
-            Beginning::Unread => blame(first, span.start, FaultKind::Unsupported),
-            Beginning::Atom => {
-                let atom = lifted(
-                    alloc,
-                    scope.predicates,
-                    scope,
-                    home,
-                    text.as_str(),
-                    span.start,
-                    parts,
-                    first,
-                )?;
-                keep(conditions, atom.map(Condition::Positive))?
-            }
-            Beginning::Increasing | Beginning::NoName => {
-                blame(first, span.start, FaultKind::Shape)
-            }
+            [head, rest @ ..] => match head {
+                Tree::List { span, .. } => blame(first, span.start, FaultKind::Shape),
+                Tree::Word {
+                    text,
+                    span: head_span,
+                } => {
+                    let list = HeadedList::new(*span, text.as_str(), *head_span, rest);
+                    match beginning_of(setting, list.head) {
+                        Beginning::Conjunction => {
+                            read_conditions(setting, reader, rest, conditions, first)?
+                        }
+                        Beginning::Negation => {
+                            let condition = negated(setting, reader, &list, first)?;
+                            conditions.add(list.start, condition)?
+                        }
+                        Beginning::Equality => {
+                            let condition = equality(reader, true, &list, first);
+                            conditions.add(list.start, condition)?
+                        }
+                        Beginning::Atom => {
+                            let atom = atom(reader, &list, first)?;
+                            conditions.add(list.start, atom.map(Condition::Positive))?
+                        }
+                        Beginning::GoalEquality | Beginning::Unread => {
+                            blame(first, list.head_start, FaultKind::Unsupported)
+                        }
+                        Beginning::Increasing | Beginning::NoName => {
+                            blame(first, list.head_start, FaultKind::Shape)
+                        }
+                    }
+                }
+            },
         },
     }
     Ok(())
@@ -105,17 +131,19 @@ fn headed(
 #[cycle(conditions)]
 #[tactic(auto, unfolding(pddl_syntax::specs::Faults::first_of))]
 fn read_conditions(
-    alloc: Global,
-    scope: &Scope,
+    setting: Setting,
+    reader: &Reader,
     items: &[Tree],
-    conditions: &mut Vec<Condition>,
+    conditions: &mut Conditions,
     first: &mut Option<Fault>,
 ) -> Result<(), AllocError>
-    ensures meaning { OnOk result (conditions.new.items ≡ conditions.old.items ++ spec.conditions scope.now (views items.now)) }
-    ensures faults { OnOk result (first.new ≡ first_of first.old (spec.conditions_faults scope.now (views items.now))) }
+    ensures meaning { OnOk result (conditions.new.conditions.items ≡ conditions.old.conditions.items ++ spec.conditions_in setting reader.now (views items.now)) }
+    ensures places { OnOk result (conditions.new.places.items ≡ conditions.old.places.items ++ spec.condition_places setting reader.now (views items.now)) }
+    ensures literals { OnOk result (conditions.new.literals.items ≡ conditions.old.literals.items ++ literal_places setting (views items.now)) }
+    ensures faults { OnOk result (first.new ≡ first_of first.old (spec.conditions_faults_in setting reader.now (views items.now))) }
 {
     for item in items {
-        read_condition(alloc, scope, item, conditions, first)?;
+        read_condition_in(setting, reader, item, conditions, first)?;
     }
     Ok(())
 }

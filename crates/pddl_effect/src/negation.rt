@@ -3,14 +3,15 @@
 ghost use Rattle.std.specs.Prelude.{◌≡◌, IfOk, OnOk, option_to_list};
 ghost use Rattle.sexp.specs.Forms.{Forms, before, views};
 ghost use Rattle.pddl_syntax.specs.Faults.{first_of};
+ghost use Rattle.pddl_terms.specs.Beginnings.{beginning};
 ghost use Rattle.pddl_terms.specs.Terms.{terms};
 ghost use Rattle.pddl_effect.specs.Conditions as spec;
 
 use pddl_syntax::{Fault, FaultKind, blame, blame_more};
 use pddl_task::{Condition, Term};
-use pddl_terms::{Beginning, Scope, Setting, beginning_of, lifted, term};
+use pddl_terms::{Beginning, HeadedList, Reader, Setting, atom, beginning_of, term};
 use sexp::Tree;
-use std::alloc::{AllocError, Global};
+use std::alloc::AllocError;
 
 /// Returns the condition that two terms denote the same object or, if `positive` is not set, different objects.
 fn equality_of(positive: bool, one: Option<Term>, two: Option<Term>) -> Option<Condition>
@@ -23,98 +24,83 @@ fn equality_of(positive: bool, one: Option<Term>, two: Option<Term>) -> Option<C
     }
 }
 
-/// Returns the equality condition, or the negated one, of the two terms in the list at `home`. If there are faults,
+/// Returns the equality condition, or the negated one, of the two terms in a list after its head. If there are faults,
 /// records them in `first` and returns `None`.
 #[tactic(auto, using(sexp::proofs::Walking::walking, pddl_syntax::proofs::Trees::noting, crate::proofs::Steps::steps), unfolding(pddl_syntax::specs::Faults::first_of))]
 pub fn equality(
-    scope: &Scope,
+    reader: &Reader,
     positive: bool,
-    home: usize,
-    items: &[Tree],
+    list: &HeadedList,
     first: &mut Option<Fault>,
 ) -> Option<Condition>
-    ensures meaning { option_to_list result ≡ spec.equality positive (terms scope.now (views items.now)) }
-    ensures faults { first.new ≡ first_of first.old (spec.two_terms_faults scope.now home (views items.now)) }
+    ensures meaning { option_to_list result ≡ spec.equality positive (terms reader.now (views list.now.rest)) }
+    ensures faults { first.new ≡ first_of first.old (spec.two_terms_faults reader.now list.now.start (views list.now.rest)) }
 {
-    match items {
+    match list.rest {
         [] => {
-            blame(first, home, FaultKind::Shape);
+            blame(first, list.start, FaultKind::Shape);
             None
         }
         [one] => {
-            term(scope, one, first);
-            blame(first, home, FaultKind::Shape);
+            term(reader.scope, one, first);
+            blame(first, list.start, FaultKind::Shape);
             None
         }
         [one, two] => {
-            let one = term(scope, one, first);
-            let two = term(scope, two, first);
+            let one = term(reader.scope, one, first);
+            let two = term(reader.scope, two, first);
             equality_of(positive, one, two)
         }
         [one, two, third, ..] => {
-            term(scope, one, first);
-            term(scope, two, first);
+            term(reader.scope, one, first);
+            term(reader.scope, two, first);
             blame(first, third.span().start, FaultKind::Shape);
             None
         }
     }
 }
 
-/// Returns the negation of the list at `home` with this head, after the word `not` at `not_at`.
-#[tactic(auto, using(sexp::proofs::Walking::walking, pddl_syntax::proofs::Trees::noting), unfolding(pddl_syntax::specs::Faults::first_of))]
+/// Returns the negation of a list, after the word `not` at `not_at`.
+#[tactic(auto, unfolding(pddl_syntax::specs::Faults::first_of))]
 fn negated_list(
-    alloc: Global,
     setting: Setting,
-    scope: &Scope,
-    home: usize,
+    reader: &Reader,
+    list: &HeadedList,
     not_at: usize,
-    head: &Tree,
-    parts: &[Tree],
     first: &mut Option<Fault>,
 ) -> Result<Option<Condition>, AllocError>
-    ensures meaning { IfOk result (λ c. option_to_list c ≡ spec.negated_inside setting scope.now (before head.now (views parts.now))) }
-    ensures faults { OnOk result (first.new ≡ first_of first.old (spec.negated_inside_faults setting scope.now not_at home (before head.now (views parts.now)))) }
+    ensures meaning { IfOk result (λ c. option_to_list c ≡ spec.negated_condition reader.now list.now.head (views list.now.rest) (beginning setting list.now.head)) }
+    ensures faults { OnOk result (first.new ≡ first_of first.old
+        (spec.negated_group_faults reader.now not_at list.now.start list.now.head_start list.now.head (views list.now.rest) (beginning setting list.now.head))) }
 {
-    match head {
-        Tree::List { .. } => {
+    match beginning_of(setting, list.head) {
+        Beginning::Atom => {
+            let atom = atom(reader, list, first)?;
+            Ok(atom.map(Condition::Negative))
+        }
+        Beginning::Equality => Ok(equality(reader, false, list, first)),
+        Beginning::GoalEquality => {
+            blame(first, list.head_start, FaultKind::Unsupported);
+            Ok(None)
+        }
+        _ => {
             blame(first, not_at, FaultKind::Unsupported);
             Ok(None)
         }
-        Tree::Word { text, span } => match beginning_of(setting, text.as_str()) {
-            Beginning::Atom => {
-                let atom = lifted(
-                    alloc,
-                    scope.predicates,
-                    scope,
-                    home,
-                    text.as_str(),
-                    span.start,
-                    parts,
-                    first,
-                )?;
-                Ok(atom.map(Condition::Negative))
-            }
-            Beginning::Equality => Ok(equality(scope, false, home, parts, first)),
-            _ => {
-                blame(first, not_at, FaultKind::Unsupported);
-                Ok(None)
-            }
-        },
     }
 }
 
 /// Returns the negation of a tree, after the word `not` at `not_at`.
 #[tactic(auto, using(sexp::proofs::Walking::walking, pddl_syntax::proofs::Trees::noting), unfolding(pddl_syntax::specs::Faults::first_of))]
 fn negated_tree(
-    alloc: Global,
     setting: Setting,
-    scope: &Scope,
-    not_at: usize,
+    reader: &Reader,
     tree: &Tree,
+    not_at: usize,
     first: &mut Option<Fault>,
 ) -> Result<Option<Condition>, AllocError>
-    ensures meaning { (rest : Forms) → IfOk result (λ c. option_to_list c ≡ spec.negated_conditions setting scope.now (before tree.now rest)) }
-    ensures faults { (rest : Forms) → OnOk result (first.new ≡ first_of first.old (spec.first_negated_faults setting scope.now not_at (before tree.now rest))) }
+    ensures meaning { (rest : Forms) → IfOk result (λ c. option_to_list c ≡ spec.negated_conditions setting reader.now (before tree.now rest)) }
+    ensures faults { (rest : Forms) → OnOk result (first.new ≡ first_of first.old (spec.first_negated_faults setting reader.now not_at (before tree.now rest))) }
 {
     match tree {
         Tree::Word { .. } => {
@@ -126,35 +112,42 @@ fn negated_tree(
                 blame(first, not_at, FaultKind::Unsupported);
                 Ok(None)
             }
-            [head, parts @ ..] => negated_list(
-                alloc, setting, scope, span.start, not_at, head, parts, first,
-            ),
+            [head, rest @ ..] => match head {
+                Tree::List { .. } => {
+                    blame(first, not_at, FaultKind::Unsupported);
+                    Ok(None)
+                }
+                Tree::Word {
+                    text,
+                    span: head_span,
+                } => {
+                    let list = HeadedList::new(*span, text.as_str(), *head_span, rest);
+                    negated_list(setting, reader, &list, not_at, first)
+                }
+            },
         },
     }
 }
 
-/// Reads the items after the word `not` at `not_at`, in the list at `home`: an atom or, in a condition, an equality.
-/// Records faults in `first`.
+/// Reads a list that begins with `not`: the negation of an atom or, in a condition, of an equality. Records faults in
+/// `first`.
 #[tactic(auto, using(sexp::proofs::Walking::walking, pddl_syntax::proofs::Trees::noting, crate::proofs::Steps::steps), unfolding(pddl_syntax::specs::Faults::first_of))]
 pub fn negated(
-    alloc: Global,
     setting: Setting,
-    scope: &Scope,
-    home: usize,
-    not_at: usize,
-    items: &[Tree],
+    reader: &Reader,
+    list: &HeadedList,
     first: &mut Option<Fault>,
 ) -> Result<Option<Condition>, AllocError>
-    ensures meaning { IfOk result (λ c. option_to_list c ≡ spec.negated_conditions setting scope.now (views items.now)) }
-    ensures faults { OnOk result (first.new ≡ first_of first.old (spec.negated_faults setting scope.now home not_at (views items.now))) }
+    ensures meaning { IfOk result (λ c. option_to_list c ≡ spec.negated_conditions setting reader.now (views list.now.rest)) }
+    ensures faults { OnOk result (first.new ≡ first_of first.old (spec.negated_faults setting reader.now list.now.start list.now.head_start (views list.now.rest))) }
 {
-    match items {
+    match list.rest {
         [] => {
-            blame(first, home, FaultKind::Shape);
+            blame(first, list.start, FaultKind::Shape);
             Ok(None)
         }
         [one, more @ ..] => {
-            let condition = negated_tree(alloc, setting, scope, not_at, one, first)?;
+            let condition = negated_tree(setting, reader, one, list.head_start, first)?;
             blame_more(more, first);
             Ok(condition)
         }

@@ -17,7 +17,7 @@ use Rattle.pddl_syntax.specs.Faults.{fault}
 use Rattle.pddl_syntax.specs.Words.{word_kind, is_one_of}
 use Rattle.pddl_syntax.specs.Sections.{more_faults}
 use Rattle.pddl_terms.specs.declared.beginning.Beginning.{Beginning}
-use Rattle.pddl_terms.specs.declared.beginning.Beginning.TheVariants.{Conjunction, Negation, Equality, Increasing, Unread, Atom, NoName}
+use Rattle.pddl_terms.specs.declared.beginning.Beginning.TheVariants.{Conjunction, Negation, Equality, GoalEquality, Increasing, Unread, Atom, NoName}
 use Rattle.pddl_terms.specs.declared.beginning.Setting.TheVariants.{InCondition}
 use Rattle.pddl_terms.specs.Beginnings.{unsupported_heads, by_kind, beginning}
 use Rattle.pddl_terms.specs.Terms.{Scope, term_of, with_term, terms, term_faults, terms_faults, lifted_faults}
@@ -33,6 +33,7 @@ abbrev HasWord : List ℕ → Beginning → Type 0
 HasWord t Conjunction = t ≡ codes "and"
 HasWord t Equality = t ≡ codes "="
 HasWord t Negation = t ≡ codes "not"
+HasWord t GoalEquality = Unit {0}
 HasWord t Increasing = Unit {0}
 HasWord t Unread = Unit {0}
 HasWord t Atom = Unit {0}
@@ -123,6 +124,7 @@ module _ (scope : Scope) where
       by Equality is w k = equality_spelled false home t f w k
       by Conjunction is w k = absurd cc
       by Negation is w k = absurd cc
+      by GoalEquality is w k = absurd cc
       by Increasing is w k = absurd cc
       by Unread is w k = absurd cc
       by NoName is w k = absurd cc
@@ -134,7 +136,7 @@ module _ (scope : Scope) where
       let parts = parts_empty (negated_inside_faults InCondition scope not_at s i) (more_faults f) h in
       let c = negation_spelled not_at s i parts.0 in (c.0, (more_none f parts.1, c.1))
 
-  group_spelled : (s e hs he : ℕ) (t : List ℕ) (i f : Forms) (b : Beginning) → beginning InCondition t ≡ b → HasWord t b → group_faults scope s hs t i b (conditions_faults scope i) ≡ []
+  group_spelled : (s e hs he : ℕ) (t : List ℕ) (i f : Forms) (b : Beginning) → beginning InCondition t ≡ b → HasWord t b → group_faults InCondition scope s hs t i b (conditions_faults scope i) ≡ []
       → (conditions_faults scope i ≡ [] → (parts : Trees) × SpellTrees scope i parts) → (more : Trees) × SpellTrees scope f more
       → (trees : Trees) × SpellTrees scope (group s e (word hs he t i) f) trees
   group_spelled s e hs he t i f Conjunction is w h inner later =
@@ -145,6 +147,7 @@ module _ (scope : Scope) where
       let c = equality_spelled true s t i w h in (leaf c.0 later.0, inr (c.0, later.0, inl c.1, refl, later.1))
   group_spelled s e hs he t i f Atom is w h inner later =
       let c = atom_spelled true s hs t i is h in (leaf c.0 later.0, inr (c.0, later.0, inl c.1, refl, later.1))
+  group_spelled s e hs he t i f GoalEquality is w h inner later = absurd cc
   group_spelled s e hs he t i f Increasing is w h inner later = absurd cc
   group_spelled s e hs he t i f Unread is w h inner later = absurd cc
   group_spelled s e hs he t i f NoName is w h inner later = absurd cc
@@ -155,7 +158,7 @@ module _ (scope : Scope) where
   trees_spelled (group s e none f) h = let later = trees_spelled f h in (all_of nothing later.0, (later.0, refl, later.1))
   trees_spelled (group s e (group hs he j i) f) h = absurd cc
   trees_spelled (group s e (word hs he t i) f) h =
-      let parts = parts_empty (group_faults scope s hs t i (beginning InCondition t) (conditions_faults scope i)) (conditions_faults scope f) h in
+      let parts = parts_empty (group_faults InCondition scope s hs t i (beginning InCondition t) (conditions_faults scope i)) (conditions_faults scope f) h in
       group_spelled s e hs he t i f (beginning InCondition t) refl (has_word t) parts.0 (trees_spelled i) (trees_spelled f parts.1)
 
   -- ---- what is spelled is without fault, and read in order
@@ -180,19 +183,19 @@ module _ (scope : Scope) where
       (none_in_both (negated_inside_faults InCondition scope not_at s i) (more_faults f) inner.0 (ap more_faults h.0), inner.1)
 
   literal_known : (s hs : ℕ) (t : List ℕ) (i : Forms) (c : Condition) (faults : List Fault) (parts : List Condition) → IsLiteral scope t i c
-      → (group_faults scope s hs t i (beginning InCondition t) faults ≡ []) × (group_conditions scope t i (beginning InCondition t) parts ≡ c ∷ [])
+      → (group_faults InCondition scope s hs t i (beginning InCondition t) faults ≡ []) × (group_conditions InCondition scope t i (beginning InCondition t) parts ≡ c ∷ [])
   literal_known s hs t i c faults parts (inl (inl h)) = (
-    ap (λ (b : Beginning). group_faults scope s hs t i b faults) h.0 ∙ atom_faultless scope.predicates scope s hs t i h.1 h.2,
-    ap (λ (b : Beginning). group_conditions scope t i b parts) h.0 ∙ ap (λ (o : Option Lifted). option_to_list (option_map Positive o)) (atom_read scope.predicates scope t i h.1 h.2) ∙ ap (λ (d : Condition). d ∷ []) (sym h.3),
+    ap (λ (b : Beginning). group_faults InCondition scope s hs t i b faults) h.0 ∙ atom_faultless scope.predicates scope s hs t i h.1 h.2,
+    ap (λ (b : Beginning). group_conditions InCondition scope t i b parts) h.0 ∙ ap (λ (o : Option Lifted). option_to_list (option_map Positive o)) (atom_read scope.predicates scope t i h.1 h.2) ∙ ap (λ (d : Condition). d ∷ []) (sym h.3),
   )
   literal_known s hs t i c faults parts (inl (inr h)) = (
-    ap (λ (b : Beginning). group_faults scope s hs t i b faults) (equality_is t h.0) ∙ two_known scope s i h.1 h.2 h.3,
-    ap (λ (b : Beginning). group_conditions scope t i b parts) (equality_is t h.0) ∙ ap (equality true) h.3 ∙ ap (λ (d : Condition). d ∷ []) (sym h.4),
+    ap (λ (b : Beginning). group_faults InCondition scope s hs t i b faults) (equality_is t h.0) ∙ two_known scope s i h.1 h.2 h.3,
+    ap (λ (b : Beginning). group_conditions InCondition scope t i b parts) (equality_is t h.0) ∙ ap (equality true) h.3 ∙ ap (λ (d : Condition). d ∷ []) (sym h.4),
   )
   literal_known s hs t i c faults parts (inr h) =
       let inner = negated_known s hs i c h.1 in (
-        ap (λ (b : Beginning). group_faults scope s hs t i b faults) (negation_is t h.0) ∙ inner.0,
-        ap (λ (b : Beginning). group_conditions scope t i b parts) (negation_is t h.0) ∙ inner.1,
+        ap (λ (b : Beginning). group_faults InCondition scope s hs t i b faults) (negation_is t h.0) ∙ inner.0,
+        ap (λ (b : Beginning). group_conditions InCondition scope t i b parts) (negation_is t h.0) ∙ inner.1,
       )
 
   trees_known : (f : Forms) (trees : Trees) → SpellTrees scope f trees → (conditions_faults scope f ≡ []) × (conditions scope f ≡ in_order trees)
@@ -203,9 +206,9 @@ module _ (scope : Scope) where
   trees_known (group s e (word hs he t i) f) trees (inl h) =
       let inner = trees_known i h.0 h.4 in
       let later = trees_known f h.1 h.5 in (
-        ap (λ (b : Beginning). group_faults scope s hs t i b (conditions_faults scope i) ++ conditions_faults scope f) (conjunction_is t h.2)
+        ap (λ (b : Beginning). group_faults InCondition scope s hs t i b (conditions_faults scope i) ++ conditions_faults scope f) (conjunction_is t h.2)
             ∙ none_in_both (conditions_faults scope i) (conditions_faults scope f) inner.0 later.0,
-        ap (λ (b : Beginning). group_conditions scope t i b (conditions scope i) ++ conditions scope f) (conjunction_is t h.2)
+        ap (λ (b : Beginning). group_conditions InCondition scope t i b (conditions scope i) ++ conditions scope f) (conjunction_is t h.2)
             ∙ ap (λ (cs : List Condition). cs ++ conditions scope f) inner.1
             ∙ ap (λ (cs : List Condition). in_order h.0 ++ cs) later.1
             ∙ ap in_order (sym h.3),
@@ -213,7 +216,7 @@ module _ (scope : Scope) where
   trees_known (group s e (word hs he t i) f) trees (inr h) =
       let own = literal_known s hs t i h.0 (conditions_faults scope i) (conditions scope i) h.2 in
       let later = trees_known f h.1 h.4 in (
-        none_in_both (group_faults scope s hs t i (beginning InCondition t) (conditions_faults scope i)) (conditions_faults scope f) own.0 later.0,
+        none_in_both (group_faults InCondition scope s hs t i (beginning InCondition t) (conditions_faults scope i)) (conditions_faults scope f) own.0 later.0,
         ap (λ (cs : List Condition). cs ++ conditions scope f) own.1
             ∙ ap (λ (cs : List Condition). h.0 ∷ cs) later.1
             ∙ ap in_order (sym h.3),

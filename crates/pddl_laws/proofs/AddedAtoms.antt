@@ -17,7 +17,7 @@ use Rattle.pddl_syntax.specs.Typed.{Declared, declared}
 use Rattle.pddl_syntax.specs.Parameters.{names_with, type_number, parameter_names}
 use Rattle.pddl_syntax.specs.Sections.{Part, behind}
 use Rattle.pddl_terms.specs.declared.beginning.Beginning.{Beginning}
-use Rattle.pddl_terms.specs.declared.beginning.Beginning.TheVariants.{Conjunction, Negation, Equality, Increasing, Unread, NoName, Atom as PredicateHead}
+use Rattle.pddl_terms.specs.declared.beginning.Beginning.TheVariants.{Conjunction, Negation, Equality, GoalEquality, Increasing, Unread, NoName, Atom as PredicateHead}
 use Rattle.pddl_terms.specs.declared.beginning.Setting.TheVariants.{InEffect}
 use Rattle.pddl_terms.specs.Beginnings.{beginning}
 use Rattle.pddl_terms.specs.Terms.{Scope, lifted}
@@ -46,6 +46,7 @@ module _ (scope : Scope) where
   negated_read t f Conjunction = All-nil IsRead
   negated_read t f Negation = All-nil IsRead
   negated_read t f Equality = All-nil IsRead
+  negated_read t f GoalEquality = All-nil IsRead
   negated_read t f Increasing = All-nil IsRead
   negated_read t f Unread = All-nil IsRead
   negated_read t f NoName = All-nil IsRead
@@ -65,6 +66,7 @@ module _ (scope : Scope) where
   group_read t f Negation inner h = negated_effects_read f
   group_read t f PredicateHead inner h = effect_read true t f
   group_read t f Equality inner h = All-nil IsRead
+  group_read t f GoalEquality inner h = All-nil IsRead
   group_read t f Increasing inner h = All-nil IsRead
   group_read t f Unread inner h = All-nil IsRead
   group_read t f NoName inner h = All-nil IsRead

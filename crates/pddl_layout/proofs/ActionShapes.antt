@@ -76,7 +76,7 @@ keyword_alike h k seen waiting (group s e i f) = both (list_alike waiting s 0) (
 -- ---- the schema
 
 schema_in_erased : (types : List ℕ) (scope : Scope) (ps : List KeywordPart) → schema_in types scope (map erased_value ps) ≡ schema_in types scope ps
-schema_in_erased types scope ps = rw (value_erased Precondition ps, value_erased Effect ps, conditions_erased scope (value_of Precondition ps), effects_erased scope (value_of Effect ps), increases_erased scope (value_of Effect ps))
+schema_in_erased types scope ps = rw (value_erased Precondition ps, value_erased Effect ps, conditions_erased InCondition scope (value_of Precondition ps), effects_erased scope (value_of Effect ps), increases_erased scope (value_of Effect ps))
 
 pub schema_behind_erased : (d : Declarations) (f : Forms) → schema_behind d (erased f) ≡ schema_behind d f
 unfolding schema_behind
@@ -90,7 +90,7 @@ schema_behind_erased d f =
 value_alike : (types : List (List ℕ)) (scope : Scope) (k : Keyword) (f : Forms) → Alike (value_faults types scope k f) (value_faults types scope k (erased f))
 unfolding value_faults
 value_alike types scope Parameters f = rw (root_parts_erased f) (parameters_alike (is_there types) (start_of f) (start_of (erased f)) (root_parts f))
-value_alike types scope Precondition f = conditions_alike scope f
+value_alike types scope Precondition f = conditions_alike InCondition scope f
 value_alike types scope Effect f = effects_alike scope f
 
 values_alike : (types : List (List ℕ)) (scope : Scope) (ps : List KeywordPart) → Alike (values_faults types scope ps) (values_faults types scope (map erased_value ps))

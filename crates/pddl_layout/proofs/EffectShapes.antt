@@ -21,13 +21,13 @@ use Rattle.pddl_syntax.specs.Words.{word_kind}
 use Rattle.pddl_syntax.specs.Numbers.{number_of}
 use Rattle.pddl_syntax.specs.Sections.{behind}
 use Rattle.pddl_terms.specs.declared.beginning.Beginning.{Beginning}
-use Rattle.pddl_terms.specs.declared.beginning.Beginning.TheVariants.{Conjunction, Negation, Equality, Increasing, Atom}
+use Rattle.pddl_terms.specs.declared.beginning.Beginning.TheVariants.{Conjunction, Negation, Equality, GoalEquality, Increasing, Atom}
 use Rattle.pddl_terms.specs.declared.beginning.Setting.{Setting}
-use Rattle.pddl_terms.specs.declared.beginning.Setting.TheVariants.{InCondition, InEffect}
+use Rattle.pddl_terms.specs.declared.beginning.Setting.TheVariants.{InEffect}
 use Rattle.pddl_terms.specs.Beginnings.{beginning}
 use Rattle.pddl_terms.specs.Terms.{Scope, is_total_cost}
 use Rattle.pddl_effect.specs.Conditions as condition
-use Rattle.pddl_effect.specs.Conditions.{conditions, conditions_faults, second_term_faults, two_terms_faults, negated_group_faults, first_negated_faults, negated_faults}
+use Rattle.pddl_effect.specs.Conditions.{conditions_in, conditions_faults_in, second_term_faults, two_terms_faults, negated_group_faults, first_negated_faults, negated_faults}
 use Rattle.pddl_effect.specs.Effects as effect
 use Rattle.pddl_effect.specs.Effects.{effect_of, effects, function_value, amount_of_word, amount_inside, amount_of, increase_of, increases, function_faults, amount_word_faults, amount_inside_faults, first_amount_faults, amount_faults, increased_word_faults, has_terms, increased_inside_faults, increased_faults, increase_faults, effects_faults}
 use Rattle.pddl_effect.specs.Literals.{group_literals, literal_places, group_increases, increase_places}
@@ -50,21 +50,22 @@ negated_conditions_erased setting scope (group s e none f) = refl
 negated_conditions_erased setting scope (group s e (word hs he t i) f) = negated_condition_erased scope t i (beginning setting t)
 negated_conditions_erased setting scope (group s e (group hs he h i) f) = refl
 
-group_conditions_erased : (scope : Scope) (t : List ℕ) (f : Forms) (b : Beginning) (parts parts2 : List Condition) → parts2 ≡ parts
-    → condition.group_conditions scope t (erased f) b parts2 ≡ condition.group_conditions scope t f b parts
-group_conditions_erased scope t f Conjunction parts parts2 e = e
-group_conditions_erased scope t f Equality parts parts2 e = ap (condition.equality true) (terms_erased scope f)
-group_conditions_erased scope t f Negation parts parts2 e = negated_conditions_erased InCondition scope f
-group_conditions_erased scope t f Atom parts parts2 e = ap (λ (a : Option Lifted). option_to_list (option_map Positive a)) (lifted_erased scope.predicates scope t f)
-group_conditions_erased scope t f other parts parts2 e = refl
+pub group_conditions_erased : (setting : Setting) (scope : Scope) (t : List ℕ) (f : Forms) (b : Beginning) (parts parts2 : List Condition) → parts2 ≡ parts
+    → condition.group_conditions setting scope t (erased f) b parts2 ≡ condition.group_conditions setting scope t f b parts
+group_conditions_erased setting scope t f Conjunction parts parts2 e = e
+group_conditions_erased setting scope t f Equality parts parts2 e = ap (condition.equality true) (terms_erased scope f)
+group_conditions_erased setting scope t f Negation parts parts2 e = negated_conditions_erased setting scope f
+group_conditions_erased setting scope t f Atom parts parts2 e = ap (λ (a : Option Lifted). option_to_list (option_map Positive a)) (lifted_erased scope.predicates scope t f)
+group_conditions_erased setting scope t f other parts parts2 e = refl
 
-pub conditions_erased : (scope : Scope) (f : Forms) → conditions scope (erased f) ≡ conditions scope f
-conditions_erased scope none = refl
-conditions_erased scope (word s e t f) = conditions_erased scope f
-conditions_erased scope (group s e none f) = conditions_erased scope f
-conditions_erased scope (group s e (group hs he h i) f) = conditions_erased scope f
-conditions_erased scope (group s e (word hs he t i) f) =
-    ap₂ ◌++◌ (group_conditions_erased scope t i (beginning InCondition t) (conditions scope i) (conditions scope (erased i)) (conditions_erased scope i)) (conditions_erased scope f)
+pub conditions_erased : (setting : Setting) (scope : Scope) (f : Forms) → conditions_in setting scope (erased f) ≡ conditions_in setting scope f
+conditions_erased setting scope none = refl
+conditions_erased setting scope (word s e t f) = conditions_erased setting scope f
+conditions_erased setting scope (group s e none f) = conditions_erased setting scope f
+conditions_erased setting scope (group s e (group hs he h i) f) = conditions_erased setting scope f
+conditions_erased setting scope (group s e (word hs he t i) f) =
+    ap₂ ◌++◌ (group_conditions_erased setting scope t i (beginning setting t) (conditions_in setting scope i) (conditions_in setting scope (erased i)) (conditions_erased setting scope i))
+    (conditions_erased setting scope f)
 
 second_term_alike : (scope : Scope) (h k : ℕ) (f : Forms) → Alike (second_term_faults scope h f) (second_term_faults scope k (erased f))
 second_term_alike scope h k none = faulty
@@ -79,6 +80,7 @@ two_terms_alike scope h k (group s e i f) = faulty
 negated_group_alike : (scope : Scope) (m h hs n k ks : ℕ) (t : List ℕ) (f : Forms) (b : Beginning) → Alike (negated_group_faults scope m h hs t f b) (negated_group_faults scope n k ks t (erased f) b)
 negated_group_alike scope m h hs n k ks t f Atom = lifted_alike scope.predicates scope h hs k ks t f
 negated_group_alike scope m h hs n k ks t f Equality = two_terms_alike scope h k f
+negated_group_alike scope m h hs n k ks t f GoalEquality = faulty
 negated_group_alike scope m h hs n k ks t f other = faulty
 
 first_negated_alike : (setting : Setting) (scope : Scope) (m n : ℕ) (f : Forms) → Alike (first_negated_faults setting scope m f) (first_negated_faults setting scope n (erased f))
@@ -88,25 +90,27 @@ first_negated_alike setting scope m n (group s e none f) = faulty
 first_negated_alike setting scope m n (group s e (word hs he t i) f) = negated_group_alike scope m s hs n 0 0 t i (beginning setting t)
 first_negated_alike setting scope m n (group s e (group hs he h i) f) = faulty
 
-negated_alike : (setting : Setting) (scope : Scope) (h m k n : ℕ) (f : Forms) → Alike (negated_faults setting scope h m f) (negated_faults setting scope k n (erased f))
+pub negated_alike : (setting : Setting) (scope : Scope) (h m k n : ℕ) (f : Forms) → Alike (negated_faults setting scope h m f) (negated_faults setting scope k n (erased f))
 negated_alike setting scope h m k n none = faulty
 negated_alike setting scope h m k n (word s e t f) = faulty
 negated_alike setting scope h m k n (group s e i f) = both (first_negated_alike setting scope m n (group s e i f)) (more_alike f)
 
-condition_group_alike : (scope : Scope) (h hs k ks : ℕ) (t : List ℕ) (f : Forms) (b : Beginning) {parts parts2 : List Fault} → Alike parts parts2
-    → Alike (condition.group_faults scope h hs t f b parts) (condition.group_faults scope k ks t (erased f) b parts2)
-condition_group_alike scope h hs k ks t f Conjunction p = p
-condition_group_alike scope h hs k ks t f Equality p = two_terms_alike scope h k f
-condition_group_alike scope h hs k ks t f Negation p = negated_alike InCondition scope h hs k ks f
-condition_group_alike scope h hs k ks t f Atom p = lifted_alike scope.predicates scope h hs k ks t f
-condition_group_alike scope h hs k ks t f other p = faulty
+condition_group_alike : (setting : Setting) (scope : Scope) (h hs k ks : ℕ) (t : List ℕ) (f : Forms) (b : Beginning) {parts parts2 : List Fault} → Alike parts parts2
+    → Alike (condition.group_faults setting scope h hs t f b parts) (condition.group_faults setting scope k ks t (erased f) b parts2)
+condition_group_alike setting scope h hs k ks t f Conjunction p = p
+condition_group_alike setting scope h hs k ks t f Equality p = two_terms_alike scope h k f
+condition_group_alike setting scope h hs k ks t f Negation p = negated_alike setting scope h hs k ks f
+condition_group_alike setting scope h hs k ks t f Atom p = lifted_alike scope.predicates scope h hs k ks t f
+condition_group_alike setting scope h hs k ks t f GoalEquality p = faulty
+condition_group_alike setting scope h hs k ks t f other p = faulty
 
-pub conditions_alike : (scope : Scope) (f : Forms) → Alike (conditions_faults scope f) (conditions_faults scope (erased f))
-conditions_alike scope none = clear
-conditions_alike scope (word s e t f) = faulty
-conditions_alike scope (group s e none f) = conditions_alike scope f
-conditions_alike scope (group s e (group hs he h i) f) = faulty
-conditions_alike scope (group s e (word hs he t i) f) = both (condition_group_alike scope s hs 0 0 t i (beginning InCondition t) (conditions_alike scope i)) (conditions_alike scope f)
+pub conditions_alike : (setting : Setting) (scope : Scope) (f : Forms) → Alike (conditions_faults_in setting scope f) (conditions_faults_in setting scope (erased f))
+conditions_alike setting scope none = clear
+conditions_alike setting scope (word s e t f) = faulty
+conditions_alike setting scope (group s e none f) = conditions_alike setting scope f
+conditions_alike setting scope (group s e (group hs he h i) f) = faulty
+conditions_alike setting scope (group s e (word hs he t i) f) =
+    both (condition_group_alike setting scope s hs 0 0 t i (beginning setting t) (conditions_alike setting scope i)) (conditions_alike setting scope f)
 
 -- ---- effects
 

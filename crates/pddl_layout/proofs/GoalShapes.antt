@@ -1,24 +1,26 @@
 -- Goals and metrics of one shape, and their faults.
-use Rattle.std.proofs.Common.{◌≡◌, ℕ, ◌&&◌, not, Bool, true, false, List, [], ◌∷◌, ◌++◌, map, codes, refl, sym, ap, ap₂, ◌∙◌}
-use Rattle.std.specs.Prelude.{Option, Some, None}
-use Rattle.std.specs.Option.{option_map_or}
+use Rattle.std.proofs.Common.{◌≡◌, ℕ, ◌&&◌, not, List, [], ◌∷◌, ◌++◌, map, codes, refl, sym, ap, ap₂, ◌∙◌}
+use Rattle.std.specs.Prelude.{Option, Some, None, option_to_list}
+use Rattle.std.specs.Option.{option_map, option_map_or}
 use Rattle.std.proofs.lemmas.List.{map-append}
 use Rattle.sexp.specs.Forms.{Forms, none, word, group, behind}
-use Rattle.pddl_task.specs.Atoms.{Atom, Literal}
-use Rattle.pddl_syntax.specs.declared.fault.Fault.{Fault}
+use Rattle.pddl_task.specs.declared.schema.Condition.{Condition}
+use Rattle.pddl_task.specs.Atoms.{Literal}
+use Rattle.pddl_task.specs.Planning.{literal_of}
 use Rattle.pddl_syntax.specs.declared.fault.FaultKind.TheVariants.{Shape, Unsupported, GoalBothWays}
 use Rattle.pddl_syntax.specs.Faults.{fault}
 use Rattle.pddl_terms.specs.declared.beginning.Beginning.{Beginning}
-use Rattle.pddl_terms.specs.declared.beginning.Beginning.TheVariants.{Conjunction, Negation, Atom as PredicateHead}
-use Rattle.pddl_terms.specs.declared.beginning.Setting.TheVariants.{InCondition}
+use Rattle.pddl_terms.specs.declared.beginning.Beginning.TheVariants.{Conjunction, Negation, Equality, GoalEquality, Increasing, Unread, Atom as PredicateHead, NoName}
+use Rattle.pddl_terms.specs.declared.beginning.Setting.TheVariants.{InGoal}
 use Rattle.pddl_terms.specs.Beginnings.{beginning}
 use Rattle.pddl_terms.specs.Terms.{Scope, not_empty}
-use Rattle.pddl_problem.specs.Initial.{atom_of}
-use Rattle.pddl_problem.specs.Goals.{Placed, placed, negated_goal, first_negated, group_goals, goals, goal_literals, negated_goal_faults, first_negated_faults, negated_goals_faults, group_goals_faults, goals_faults, has_opposite, opposite_faults, goal_faults, is_cost, is_cost_alone, is_metric, first_word, metric_faults}
+use Rattle.pddl_effect.specs.Conditions.{group_conditions, conditions_in, group_places, condition_places}
+use Rattle.pddl_problem.specs.Goals.{Placed, placed_literal, placed, goals, goal_literals, has_opposite, opposite_faults, goal_faults, is_cost, is_cost_alone, is_metric, first_word, metric_faults}
 use Rattle.pddl_layout.specs.Shapes.{erased}
 use Rattle.pddl_layout.proofs.Alike.{Alike, faulty, clear, both, chosen, tested}
 use Rattle.pddl_layout.proofs.SectionShapes.{behind_erased, has_head_erased, more_alike}
-use Rattle.pddl_layout.proofs.TermShapes.{lifted_erased, not_empty_erased, lifted_alike}
+use Rattle.pddl_layout.proofs.TermShapes.{not_empty_erased}
+use Rattle.pddl_layout.proofs.EffectShapes.{zeroed, group_conditions_erased, conditions_erased, conditions_alike}
 
 -- ---- the literals
 
@@ -26,36 +28,49 @@ use Rattle.pddl_layout.proofs.TermShapes.{lifted_erased, not_empty_erased, lifte
 abbrev unplaced : Placed → Placed
 unplaced l = record { at = 0; literal = l.literal }
 
-placed_unplaced : (s : ℕ) (positive : Bool) (a b : Option Atom) → b ≡ a → placed 0 positive b ≡ map unplaced (placed s positive a)
-placed_unplaced s positive None b e = ap (placed 0 positive) e
-placed_unplaced s positive (Some p) b e = ap (placed 0 positive) e
+literal_unplaced : (s : ℕ) (o : Option Literal) → option_to_list (option_map (λ l. record { at = 0; literal = l }) o) ≡ map unplaced (option_to_list (option_map (λ l. record { at = s; literal = l }) o))
+literal_unplaced s None = refl
+literal_unplaced s (Some l) = refl
 
-negated_erased : (scope : Scope) (t : List ℕ) (i : Forms) (b : Beginning) → negated_goal scope t (erased i) b ≡ negated_goal scope t i b
-negated_erased scope t i PredicateHead = lifted_erased scope.predicates scope t i
-negated_erased scope t i other = refl
+placed_unplaced : (ss : List ℕ) (cs : List Condition) → placed (zeroed ss) cs ≡ map unplaced (placed ss cs)
+placed_unplaced [] cs = refl
+placed_unplaced (s ∷ ss) [] = refl
+placed_unplaced (s ∷ ss) (c ∷ cs) =
+    ap₂ ◌++◌ (literal_unplaced s (literal_of [] c)) (placed_unplaced ss cs) ∙ sym (map-append unplaced (placed_literal s c) (placed ss cs))
 
-first_negated_erased : (scope : Scope) (f : Forms) → first_negated scope (erased f) ≡ first_negated scope f
-first_negated_erased scope none = refl
-first_negated_erased scope (word s e t f) = refl
-first_negated_erased scope (group s e none f) = refl
-first_negated_erased scope (group s e (word hs he t i) f) = negated_erased scope t i (beginning InCondition t)
-first_negated_erased scope (group s e (group hs he h i) f) = refl
+all_zeroed : (s : ℕ) (cs : List Condition) → map (λ (c : Condition). 0) cs ≡ zeroed (map (λ (c : Condition). s) cs)
+all_zeroed s [] = refl
+all_zeroed s (c ∷ cs) = ap (λ (ns : List ℕ). 0 ∷ ns) (all_zeroed s cs)
 
-group_unplaced : (scope : Scope) (s : ℕ) (t : List ℕ) (i : Forms) (b : Beginning) (parts parts2 : List Placed) → parts2 ≡ map unplaced parts
-    → group_goals scope 0 t (erased i) b parts2 ≡ map unplaced (group_goals scope s t i b parts)
-group_unplaced scope s t i Conjunction parts parts2 e = e
-group_unplaced scope s t i Negation parts parts2 e = placed_unplaced s false (atom_of (first_negated scope i)) (atom_of (first_negated scope (erased i))) (ap atom_of (first_negated_erased scope i))
-group_unplaced scope s t i PredicateHead parts parts2 e = placed_unplaced s true _ _ (ap atom_of (lifted_erased scope.predicates scope t i))
-group_unplaced scope s t i other parts parts2 e = refl
+module _ (scope : Scope) where
+  literal_zeroed : (s : ℕ) (t : List ℕ) (i : Forms) (b : Beginning)
+      → map (λ (c : Condition). 0) (group_conditions InGoal scope t (erased i) b []) ≡ zeroed (map (λ (c : Condition). s) (group_conditions InGoal scope t i b []))
+  literal_zeroed s t i b = ap (map (λ (c : Condition). 0)) (group_conditions_erased InGoal scope t i b [] [] refl) ∙ all_zeroed s (group_conditions InGoal scope t i b [])
+
+  group_zeroed : (s : ℕ) (t : List ℕ) (i : Forms) (b : Beginning) (parts parts2 : List ℕ) → parts2 ≡ zeroed parts
+      → group_places InGoal scope 0 t (erased i) b parts2 ≡ zeroed (group_places InGoal scope s t i b parts)
+  group_zeroed s t i Conjunction parts parts2 e = e
+  group_zeroed s t i Negation parts parts2 e = literal_zeroed s t i Negation
+  group_zeroed s t i Equality parts parts2 e = literal_zeroed s t i Equality
+  group_zeroed s t i GoalEquality parts parts2 e = refl
+  group_zeroed s t i Increasing parts parts2 e = refl
+  group_zeroed s t i Unread parts parts2 e = refl
+  group_zeroed s t i PredicateHead parts parts2 e = literal_zeroed s t i PredicateHead
+  group_zeroed s t i NoName parts parts2 e = refl
+
+  places_zeroed : (f : Forms) → condition_places InGoal scope (erased f) ≡ zeroed (condition_places InGoal scope f)
+  places_zeroed none = refl
+  places_zeroed (word s e t f) = places_zeroed f
+  places_zeroed (group s e none f) = places_zeroed f
+  places_zeroed (group s e (group hs he h i) f) = places_zeroed f
+  places_zeroed (group s e (word hs he t i) f) =
+      let here = group_places InGoal scope s t i (beginning InGoal t) (condition_places InGoal scope i) in
+      ap₂ ◌++◌ (group_zeroed s t i (beginning InGoal t) (condition_places InGoal scope i) (condition_places InGoal scope (erased i)) (places_zeroed i)) (places_zeroed f)
+      ∙ sym (map-append (λ p. 0) here (condition_places InGoal scope f))
 
 goals_unplaced : (scope : Scope) (f : Forms) → goals scope (erased f) ≡ map unplaced (goals scope f)
-goals_unplaced scope none = refl
-goals_unplaced scope (word s e t f) = goals_unplaced scope f
-goals_unplaced scope (group s e none f) = goals_unplaced scope f
-goals_unplaced scope (group s e (group hs he h i) f) = goals_unplaced scope f
-goals_unplaced scope (group s e (word hs he t i) f) =
-    ap₂ ◌++◌ (group_unplaced scope s t i (beginning InCondition t) (goals scope i) (goals scope (erased i)) (goals_unplaced scope i)) (goals_unplaced scope f)
-    ∙ sym (map-append unplaced (group_goals scope s t i (beginning InCondition t) (goals scope i)) (goals scope f))
+goals_unplaced scope f =
+    ap₂ placed (places_zeroed scope f) (conditions_erased InGoal scope f) ∙ placed_unplaced (condition_places InGoal scope f) (conditions_in InGoal scope f)
 
 literals_of : (ls : List Placed) → map (λ (l : Placed). l.literal) (map unplaced ls) ≡ map (λ (l : Placed). l.literal) ls
 literals_of [] = refl
@@ -71,36 +86,6 @@ goal_literals_erased scope f = ap (map (λ (l : Placed). l.literal)) (first_lite
 
 -- ---- the faults of the goal
 
-negated_goal_alike : (scope : Scope) (m h s n k z : ℕ) (t : List ℕ) (i : Forms) (b : Beginning) → Alike (negated_goal_faults scope m h s t i b) (negated_goal_faults scope n k z t (erased i) b)
-negated_goal_alike scope m h s n k z t i PredicateHead = lifted_alike scope.predicates scope h s k z t i
-negated_goal_alike scope m h s n k z t i other = faulty
-
-first_negated_alike : (scope : Scope) (m n : ℕ) (f : Forms) → Alike (first_negated_faults scope m f) (first_negated_faults scope n (erased f))
-first_negated_alike scope m n none = clear
-first_negated_alike scope m n (word s e t f) = faulty
-first_negated_alike scope m n (group s e none f) = faulty
-first_negated_alike scope m n (group s e (word hs he t i) f) = negated_goal_alike scope m s hs n 0 0 t i (beginning InCondition t)
-first_negated_alike scope m n (group s e (group hs he h i) f) = faulty
-
-negated_goals_alike : (scope : Scope) (h m k n : ℕ) (f : Forms) → Alike (negated_goals_faults scope h m f) (negated_goals_faults scope k n (erased f))
-negated_goals_alike scope h m k n none = faulty
-negated_goals_alike scope h m k n (word s e t f) = faulty
-negated_goals_alike scope h m k n (group s e i f) = both (first_negated_alike scope m n (group s e i f)) (more_alike f)
-
-group_alike : (scope : Scope) (h s k z : ℕ) (t : List ℕ) (i : Forms) (b : Beginning) {parts parts2 : List Fault} → Alike parts parts2
-    → Alike (group_goals_faults scope h s t i b parts) (group_goals_faults scope k z t (erased i) b parts2)
-group_alike scope h s k z t i Conjunction p = p
-group_alike scope h s k z t i Negation p = negated_goals_alike scope h s k z i
-group_alike scope h s k z t i PredicateHead p = lifted_alike scope.predicates scope h s k z t i
-group_alike scope h s k z t i other p = faulty
-
-goals_alike : (scope : Scope) (f : Forms) → Alike (goals_faults scope f) (goals_faults scope (erased f))
-goals_alike scope none = clear
-goals_alike scope (word s e t f) = faulty
-goals_alike scope (group s e none f) = goals_alike scope f
-goals_alike scope (group s e (group hs he h i) f) = faulty
-goals_alike scope (group s e (word hs he t i) f) = both (group_alike scope s hs 0 0 t i (beginning InCondition t) (goals_alike scope i)) (goals_alike scope f)
-
 opposite_alike : (before : List Literal) (ls : List Placed) → Alike (opposite_faults before ls) (opposite_faults before (map unplaced ls))
 opposite_alike before [] = clear
 opposite_alike before (l ∷ ls) = tested (has_opposite before l.literal) (fault GoalBothWays l.at) (fault GoalBothWays 0) (opposite_alike (before ++ l.literal ∷ []) ls)
@@ -111,7 +96,7 @@ both_ways_alike scope f = rw (goals_unplaced scope f) (opposite_alike [] (goals 
 pub goal_alike : (scope : Scope) (h k : ℕ) (f : Forms) → Alike (goal_faults scope h f) (goal_faults scope k (erased f))
 goal_alike scope h k none = faulty
 goal_alike scope h k (word s e t f) = faulty
-goal_alike scope h k (group s e i f) = both (both (goals_alike scope (group s e i none)) (both_ways_alike scope (group s e i none))) (more_alike f)
+goal_alike scope h k (group s e i f) = both (both (conditions_alike InGoal scope (group s e i none)) (both_ways_alike scope (group s e i none))) (more_alike f)
 
 -- ---- the metric
 

@@ -17,17 +17,18 @@ use Rattle.pddl_syntax.specs.Faults.{fault}
 use Rattle.pddl_syntax.specs.Words.{word_kind}
 use Rattle.pddl_syntax.specs.Numbers.{number_of}
 use Rattle.pddl_terms.specs.declared.beginning.Beginning.{Beginning}
-use Rattle.pddl_terms.specs.declared.beginning.Beginning.TheVariants.{Negation, Unread, NoName, Atom as PredicateHead}
+use Rattle.pddl_terms.specs.declared.beginning.Beginning.TheVariants.{Negation, Unread, NoName}
 use Rattle.pddl_terms.specs.declared.beginning.Setting.TheVariants.{InInitial}
 use Rattle.pddl_terms.specs.Beginnings.{beginning}
 use Rattle.pddl_terms.specs.Terms.{Scope, is_total_cost, not_empty}
 use Rattle.pddl_problem.specs.declared.initial.ItemKind.{ItemKind}
 use Rattle.pddl_problem.specs.declared.initial.ItemKind.TheVariants.{TrueAtom, Value, Negated, NotRead, Nothing}
-use Rattle.pddl_problem.specs.Initial.{atom_of, ends_in_list, first_number, number_alone, value_by, function_by_kind, first_function, stated, item_kind_by, item_kind, item_atom, item_value, atom_inside, value_inside, initial_atoms, with_value, stated_values, number_word_faults, number_faults, is_positive, function_faults, function_inside_faults, first_function_faults, value_faults, negated_atom_faults, first_negated_faults, negated_item_faults, item_faults, inside_faults, is_restated, past_limit, initial_faults}
+use Rattle.pddl_problem.specs.Initial.{atom_of, ends_in_list, first_number, number_alone, value_by, function_by_kind, first_function, stated, item_kind_by, item_kind, item_atom, item_value, atom_inside, value_inside, initial_atoms, with_value, stated_values, number_word_faults, number_faults, is_positive, function_faults, function_inside_faults, first_function_faults, value_faults, item_faults, inside_faults, is_restated, past_limit, initial_faults}
 use Rattle.pddl_problem.specs.Limits.{max_items}
 use Rattle.pddl_layout.specs.Shapes.{erased}
 use Rattle.pddl_layout.proofs.Alike.{Alike, faulty, clear, both, chosen, tested, tested_both}
 use Rattle.pddl_layout.proofs.SectionShapes.{behind_erased, more_alike}
+use Rattle.pddl_layout.proofs.EffectShapes.{negated_alike}
 use Rattle.pddl_layout.proofs.TermShapes.{lifted_erased, not_empty_erased, lifted_alike}
 
 -- ---- the meaning
@@ -136,24 +137,8 @@ value_alike scope h k none = faulty
 value_alike scope h k (word s e t f) = both (first_function_alike scope (word s e t f)) (number_alike h k f)
 value_alike scope h k (group s e i f) = both (first_function_alike scope (group s e i f)) (number_alike h k f)
 
-negated_atom_alike : (scope : Scope) (m h s n k z : ℕ) (t : List ℕ) (i : Forms) (b : Beginning) → Alike (negated_atom_faults scope m h s t i b) (negated_atom_faults scope n k z t (erased i) b)
-negated_atom_alike scope m h s n k z t i PredicateHead = lifted_alike scope.predicates scope h s k z t i
-negated_atom_alike scope m h s n k z t i other = faulty
-
-first_negated_alike : (scope : Scope) (m n : ℕ) (f : Forms) → Alike (first_negated_faults scope m f) (first_negated_faults scope n (erased f))
-first_negated_alike scope m n none = clear
-first_negated_alike scope m n (word s e t f) = faulty
-first_negated_alike scope m n (group s e none f) = faulty
-first_negated_alike scope m n (group s e (word hs he t i) f) = negated_atom_alike scope m s hs n 0 0 t i (beginning InInitial t)
-first_negated_alike scope m n (group s e (group hs he h i) f) = faulty
-
-negated_item_alike : (scope : Scope) (h m k n : ℕ) (f : Forms) → Alike (negated_item_faults scope h m f) (negated_item_faults scope k n (erased f))
-negated_item_alike scope h m k n none = faulty
-negated_item_alike scope h m k n (word s e t f) = faulty
-negated_item_alike scope h m k n (group s e i f) = both (first_negated_alike scope m n (group s e i f)) (more_alike f)
-
 item_alike : (scope : Scope) (h s k z : ℕ) (t : List ℕ) (i : Forms) (kind : ItemKind) → Alike (item_faults scope h s t i kind) (item_faults scope k z t (erased i) kind)
-item_alike scope h s k z t i Negated = negated_item_alike scope h s k z i
+item_alike scope h s k z t i Negated = negated_alike InInitial scope h s k z i
 item_alike scope h s k z t i NotRead = faulty
 item_alike scope h s k z t i Nothing = faulty
 item_alike scope h s k z t i Value = value_alike scope h k i

@@ -10,10 +10,8 @@ use Rattle.pddl_syntax.specs.Sections.{more_faults}
 use Rattle.pddl_syntax.proofs.HeadSteps.{more_step}
 use Rattle.pddl_terms.specs.Terms.{Scope}
 use Rattle.pddl_terms.proofs.TermSteps.{not_empty_before}
-use Rattle.pddl_problem.specs.Initial.{number_alone, first_number, number_faults, first_number_faults, value_faults, first_function_faults, negated_item_faults}
-use Rattle.pddl_problem.specs.Initial as initial
-use Rattle.pddl_problem.specs.Goals.{goals, goals_faults, goal_faults, opposite_faults, first_alone, negated_goals_faults}
-use Rattle.pddl_problem.specs.Goals as goal
+use Rattle.pddl_problem.specs.Initial.{number_alone, first_number, number_faults, first_number_faults, value_faults, first_function_faults}
+use Rattle.pddl_problem.specs.Goals.{placed, goals, goals_faults, goal_faults, opposite_faults, first_alone}
 
 -- ---- numbers
 
@@ -42,18 +40,6 @@ value_step scope home = at_tree (λ f g. value_faults scope home f ≡ first_fun
 
 pub ruleset values = (value_step)
 
--- ---- what stands behind `not`
-
-pub negated_step : (scope : Scope) (home not_at : ℕ) (t : Tree) (g : Forms)
-    → negated_item_faults scope home not_at (before t g) ≡ initial.first_negated_faults scope not_at (before t g) ++ more_faults g
-negated_step scope home not_at =
-    at_tree (λ f g. negated_item_faults scope home not_at f ≡ initial.first_negated_faults scope not_at f ++ more_faults g) (λ s e text g. refl) (λ s e inner g. refl)
-
-pub negated_goal_step : (scope : Scope) (home not_at : ℕ) (t : Tree) (g : Forms)
-    → negated_goals_faults scope home not_at (before t g) ≡ goal.first_negated_faults scope not_at (before t g) ++ more_faults g
-negated_goal_step scope home not_at =
-    at_tree (λ f g. negated_goals_faults scope home not_at f ≡ goal.first_negated_faults scope not_at f ++ more_faults g) (λ s e text g. refl) (λ s e inner g. refl)
-
 -- ---- the goal
 
 pub ruleset appending = (append_assoc, append-nil, map-append)
@@ -74,5 +60,10 @@ faults_then scope home (group s e i f) g is = rw is refl
 pub goal_faults_step : (scope : Scope) (home : ℕ) (t : Tree) (g : Forms)
     → goal_faults scope home (before t g) ≡ goals_faults scope (before t none) ++ opposite_faults [] (goals scope (before t none)) ++ more_faults g
 goal_faults_step scope home t g = ap (goal_faults scope home) (before_then t none g) ∙ faults_then scope home (alone t) g (one_alone t)
+
+-- no conditions, no literals
+pub no_conditions : (places : List ℕ) → placed places [] ≡ []
+no_conditions [] = refl
+no_conditions (s ∷ ss) = refl
 
 pub ruleset goal_steps = (alone_step, goal_faults_step, append-nil)

@@ -18,10 +18,11 @@ use Rattle.pddl_syntax.specs.Words.{word_kind}
 use Rattle.pddl_syntax.specs.Numbers.{number_of}
 use Rattle.pddl_syntax.specs.Sections.{more_faults}
 use Rattle.pddl_terms.specs.declared.beginning.Beginning.{Beginning}
-use Rattle.pddl_terms.specs.declared.beginning.Beginning.TheVariants.{Negation, Unread, NoName, Atom as PredicateHead}
+use Rattle.pddl_terms.specs.declared.beginning.Beginning.TheVariants.{Negation, Unread, NoName}
 use Rattle.pddl_terms.specs.declared.beginning.Setting.TheVariants.{InInitial}
 use Rattle.pddl_terms.specs.Terms.{Scope, lifted, lifted_faults, is_total_cost, not_empty}
 use Rattle.pddl_terms.specs.Beginnings.{beginning}
+use Rattle.pddl_effect.specs.Conditions.{negated_faults}
 use Rattle.pddl_problem.specs.declared.initial.ItemKind.{ItemKind}
 use Rattle.pddl_problem.specs.declared.initial.ItemKind.TheVariants.{TrueAtom, Value, Negated, NotRead, Nothing}
 use Rattle.pddl_problem.specs.Limits.{max_items}
@@ -204,32 +205,9 @@ value_faults scope home none = fault Shape home ∷ []
 value_faults scope home (word s e t f) = first_function_faults scope (word s e t f) ++ number_faults home f
 value_faults scope home (group s e i f) = first_function_faults scope (group s e i f) ++ number_faults home f
 
--- the faults of the negated list at `home`, after the word `not` at `not_at`, which must be an atom
-abbrev pub negated_atom_faults : Scope → ℕ → ℕ → ℕ → List ℕ → Forms → Beginning → List Fault
-negated_atom_faults scope not_at home hs t i PredicateHead = lifted_faults scope.predicates scope home hs t i
-negated_atom_faults scope not_at home hs t i other = fault Unsupported not_at ∷ []
-
--- the faults of the expressions in the list at `home`, which must be an atom, after the word `not` at `not_at`
-abbrev pub negated_inside_faults : Scope → ℕ → ℕ → Forms → List Fault
-negated_inside_faults scope not_at home none = fault Unsupported not_at ∷ []
-negated_inside_faults scope not_at home (word hs he t i) = negated_atom_faults scope not_at home hs t i (beginning InInitial t)
-negated_inside_faults scope not_at home (group hs he h i) = fault Unsupported not_at ∷ []
-
--- the faults of the first expression, which must be an atom, after the word `not` at `not_at`
-abbrev pub first_negated_faults : Scope → ℕ → Forms → List Fault
-first_negated_faults scope not_at none = []
-first_negated_faults scope not_at (word s e t f) = fault Unsupported not_at ∷ []
-first_negated_faults scope not_at (group s e i f) = negated_inside_faults scope not_at s i
-
--- the faults of the expressions after the word `not` at `not_at`, in the list at `home`
-abbrev pub negated_item_faults : Scope → ℕ → ℕ → Forms → List Fault
-negated_item_faults scope home not_at none = fault Shape home ∷ []
-negated_item_faults scope home not_at (word s e t f) = first_negated_faults scope not_at (word s e t f) ++ more_faults f
-negated_item_faults scope home not_at (group s e i f) = first_negated_faults scope not_at (group s e i f) ++ more_faults f
-
 -- the faults of an item of this kind at `home`, whose head is at offset `hs`
 abbrev pub item_faults : Scope → ℕ → ℕ → List ℕ → Forms → ItemKind → List Fault
-item_faults scope home hs t i Negated = negated_item_faults scope home hs i
+item_faults scope home hs t i Negated = negated_faults InInitial scope home hs i
 item_faults scope home hs t i NotRead = fault Unsupported hs ∷ []
 item_faults scope home hs t i Nothing = fault Shape hs ∷ []
 item_faults scope home hs t i Value = value_faults scope home i

@@ -1,16 +1,15 @@
 //! The section of the goal.
 
-ghost use Rattle.std.specs.Prelude.{◌≡◌, ◌++◌, ℕ, [], ◌∷◌, false, map, IfOk, OnOk};
-ghost use Rattle.sexp.specs.Forms.{Forms, before, views, group};
+ghost use Rattle.std.specs.Prelude.{◌≡◌, [], map, IfOk, OnOk};
+ghost use Rattle.sexp.specs.Forms.{views, alone};
 ghost use Rattle.pddl_syntax.specs.Faults.{first_of};
 ghost use Rattle.pddl_task.specs.Atoms.{wants, excludes};
-ghost use Rattle.pddl_problem.specs.Initial.{atom_of};
 ghost use Rattle.pddl_problem.specs.Goals as spec;
 
-use crate::grounding::ground;
+use pddl_effect::{Conditions, read_condition_in};
 use pddl_syntax::{Fault, FaultKind, blame, blame_if, blame_more};
-use pddl_task::{GroundAtom, GroundLiteral, LiftedAtom};
-use pddl_terms::{Beginning, Scope, Setting, beginning_of, lifted};
+use pddl_task::{Condition, GroundAtom, GroundLiteral};
+use pddl_terms::{Reader, Scope, Setting};
 use sexp::Tree;
 use std::alloc::{AllocError, Global};
 use std::collections::HashSet;
@@ -31,206 +30,40 @@ impl Model for PlacedLiteral {
     ghost view = { λ l. record { at = l.at; literal = l.literal } };
 }
 
-/// Adds the literal of the list at `at`, if it has one: its atom or the negation of its atom.
-fn keep(
+/// Returns the literals of conditions, each with the byte offset of its condition.
+#[tactic(auto, using(crate::proofs::Steps::appending, crate::proofs::Steps::no_conditions))]
+fn placed(
     alloc: Global,
-    literals: &mut Vec<PlacedLiteral>,
-    at: usize,
-    positive: bool,
-    atom: Option<LiftedAtom>,
-) -> Result<(), AllocError>
-    ensures { OnOk result (literals.new.items ≡ literals.old.items ++ spec.placed at positive (atom_of atom)) }
+    places: &[usize],
+    conditions: &[Condition],
+) -> Result<Vec<PlacedLiteral>, AllocError>
+    ensures { IfOk result (λ v. v.items ≡ spec.placed places.now conditions.now) }
 {
-    if let Some(atom) = ground(alloc, atom)? {
-        let literal = GroundLiteral { atom, positive };
-        literals.push(PlacedLiteral { at, literal })?;
-    }
-    Ok(())
-}
-
-/// Returns the atom of the negated list at `home` with this head, after the word `not` at `not_at`.
-#[tactic(auto, using(sexp::proofs::Walking::walking, pddl_syntax::proofs::Trees::noting), unfolding(pddl_syntax::specs::Faults::first_of))]
-fn negated_list(
-    alloc: Global,
-    scope: &Scope,
-    home: usize,
-    not_at: usize,
-    head: &Tree,
-    terms: &[Tree],
-    first: &mut Option<Fault>,
-) -> Result<Option<LiftedAtom>, AllocError>
-    ensures meaning { IfOk result (λ a. a ≡ spec.negated_inside scope.now (before head.now (views terms.now))) }
-    ensures faults { OnOk result (first.new ≡ first_of first.old (spec.negated_inside_faults scope.now not_at home (before head.now (views terms.now)))) }
-{
-    match head {
-        Tree::List { .. } => {
-            blame(first, not_at, FaultKind::Unsupported);
-            Ok(None)
-        }
-        Tree::Word { text, span } => match beginning_of(Setting::InCondition, text.as_str()) {
-            Beginning::Atom => lifted(
-                alloc,
-                scope.predicates,
-                scope,
-                home,
-                text.as_str(),
-                span.start,
-                terms,
-                first,
-            ),
-            Beginning::Equality => {
-                blame(first, span.start, FaultKind::Unsupported);
-                Ok(None)
-            }
-            _ => {
-                blame(first, not_at, FaultKind::Unsupported);
-                Ok(None)
-            }
-        },
-    }
-}
-
-/// Returns the atom of a negated tree, after the word `not` at `not_at`.
-#[tactic(auto, using(sexp::proofs::Walking::walking, pddl_syntax::proofs::Trees::noting), unfolding(pddl_syntax::specs::Faults::first_of))]
-fn negated_tree(
-    alloc: Global,
-    scope: &Scope,
-    not_at: usize,
-    tree: &Tree,
-    first: &mut Option<Fault>,
-) -> Result<Option<LiftedAtom>, AllocError>
-    ensures meaning { (rest : Forms) → IfOk result (λ a. a ≡ spec.first_negated scope.now (before tree.now rest)) }
-    ensures faults { (rest : Forms) → OnOk result (first.new ≡ first_of first.old (spec.first_negated_faults scope.now not_at (before tree.now rest))) }
-{
-    match tree {
-        Tree::Word { .. } => {
-            blame(first, not_at, FaultKind::Unsupported);
-            Ok(None)
-        }
-        Tree::List { items, span } => match items.as_slice() {
-            [] => {
-                blame(first, not_at, FaultKind::Unsupported);
-                Ok(None)
-            }
-            [head, terms @ ..] => negated_list(
-                alloc, scope, span.start, not_at, head, terms, first,
-            ),
-        },
-    }
-}
-
-/// Returns the atom of the negated items after the word `not` at `not_at`, in the list at `home`.
-#[tactic(auto, using(sexp::proofs::Walking::walking, pddl_syntax::proofs::Trees::noting, crate::proofs::Steps::negated_goal_step), unfolding(pddl_syntax::specs::Faults::first_of))]
-fn negated(
-    alloc: Global,
-    scope: &Scope,
-    home: usize,
-    not_at: usize,
-    items: &[Tree],
-    first: &mut Option<Fault>,
-) -> Result<Option<LiftedAtom>, AllocError>
-    ensures meaning { IfOk result (λ a. a ≡ spec.first_negated scope.now (views items.now)) }
-    ensures faults { OnOk result (first.new ≡ first_of first.old (spec.negated_goals_faults scope.now home not_at (views items.now))) }
-{
-    match items {
-        [] => {
-            blame(first, home, FaultKind::Shape);
-            Ok(None)
-        }
-        [one, more @ ..] => {
-            let atom = negated_tree(alloc, scope, not_at, one, first)?;
-            blame_more(more, first);
-            Ok(atom)
+    let mut literals = Vec::new(alloc);
+    for (place, condition) in places.iter().zip(conditions) {
+        if let Some(literal) = condition.literal(alloc, &[])? {
+            literals.push(PlacedLiteral {
+                at: *place,
+                literal,
+            })?;
         }
     }
+    Ok(literals)
 }
 
-/// Reads a tree as a goal, adds its literals to `literals` and records its faults in `first`.
-#[cycle(goals)]
-#[tactic(auto, using(sexp::proofs::Walking::walking, pddl_syntax::proofs::Trees::noting, crate::proofs::Steps::appending), unfolding(pddl_syntax::specs::Faults::first_of))]
+/// Reads a tree as a goal, and records its faults in `first`.
+#[tactic(auto, using(crate::proofs::Steps::appending), unfolding(pddl_syntax::specs::Faults::first_of))]
 fn read_goal(
-    alloc: Global,
-    scope: &Scope,
+    reader: &Reader,
     tree: &Tree,
-    literals: &mut Vec<PlacedLiteral>,
     first: &mut Option<Fault>,
-) -> Result<(), AllocError>
-    ensures meaning { (rest : Forms) → OnOk result (literals.old.items ++ spec.goals scope.now (before tree.now rest) ≡ literals.new.items ++ spec.goals scope.now rest) }
-    ensures faults { (rest : Forms) → OnOk result (first_of first.old (spec.goals_faults scope.now (before tree.now rest)) ≡ first_of first.new (spec.goals_faults scope.now rest)) }
+) -> Result<Vec<PlacedLiteral>, AllocError>
+    ensures meaning { IfOk result (λ v. v.items ≡ spec.goals reader.now (alone tree.now)) }
+    ensures faults { OnOk result (first.new ≡ first_of first.old (spec.goals_faults reader.now (alone tree.now))) }
 {
-    match tree {
-        Tree::Word { span, .. } => blame(first, span.start, FaultKind::Shape),
-        Tree::List { items, span } => match items.as_slice() {
-            [] => {}
-            [head, parts @ ..] => headed(alloc, scope, parts, head, span.start, literals, first)?,
-        },
-    }
-    Ok(())
-}
-
-/// Reads the list at `home` with this head.
-#[cycle(goals)]
-#[tactic(auto, using(sexp::proofs::Walking::walking, pddl_syntax::proofs::Trees::noting, crate::proofs::Steps::appending), unfolding(pddl_syntax::specs::Faults::first_of))]
-fn headed(
-    alloc: Global,
-    scope: &Scope,
-    parts: &[Tree],
-    head: &Tree,
-    home: usize,
-    literals: &mut Vec<PlacedLiteral>,
-    first: &mut Option<Fault>,
-) -> Result<(), AllocError>
-    ensures meaning { (end : ℕ) (rest : Forms) → OnOk result (
-        literals.old.items ++ spec.goals scope.now (group home end (before head.now (views parts.now)) rest) ≡ literals.new.items ++ spec.goals scope.now rest) }
-    ensures faults { (end : ℕ) (rest : Forms) → OnOk result (
-        first_of first.old (spec.goals_faults scope.now (group home end (before head.now (views parts.now)) rest)) ≡ first_of first.new (spec.goals_faults scope.now rest)) }
-{
-    match head {
-        Tree::List { span, .. } => blame(first, span.start, FaultKind::Shape),
-        Tree::Word { text, span } => match beginning_of(Setting::InCondition, text.as_str()) {
-            Beginning::Conjunction => read_goals(alloc, scope, parts, literals, first)?,
-            Beginning::Negation => {
-                let atom = negated(alloc, scope, home, span.start, parts, first)?;
-                keep(alloc, literals, home, false, atom)?
-            }
-            Beginning::Atom => {
-                let atom = lifted(
-                    alloc,
-                    scope.predicates,
-                    scope,
-                    home,
-                    text.as_str(),
-                    span.start,
-                    parts,
-                    first,
-                )?;
-                keep(alloc, literals, home, true, atom)?
-            }
-            Beginning::NoName => blame(first, span.start, FaultKind::Shape),
-            Beginning::Equality | Beginning::Increasing | Beginning::Unread => {
-                blame(first, span.start, FaultKind::Unsupported)
-            }
-        },
-    }
-    Ok(())
-}
-
-#[cycle(goals)]
-#[tactic(auto, unfolding(pddl_syntax::specs::Faults::first_of))]
-fn read_goals(
-    alloc: Global,
-    scope: &Scope,
-    items: &[Tree],
-    literals: &mut Vec<PlacedLiteral>,
-    first: &mut Option<Fault>,
-) -> Result<(), AllocError>
-    ensures meaning { OnOk result (literals.new.items ≡ literals.old.items ++ spec.goals scope.now (views items.now)) }
-    ensures faults { OnOk result (first.new ≡ first_of first.old (spec.goals_faults scope.now (views items.now))) }
-{
-    for item in items {
-        read_goal(alloc, scope, item, literals, first)?;
-    }
-    Ok(())
+    let mut goals = Conditions::new(reader.alloc);
+    read_condition_in(Setting::InGoal, reader, tree, &mut goals, first)?;
+    placed(reader.alloc, &goals.places, &goals.conditions)
 }
 
 /// The atoms of literals: those of the positive ones, and those of the negative ones.
@@ -333,8 +166,8 @@ pub fn goal_section(
             Ok(Vec::new(alloc))
         }
         [goal, more @ ..] => {
-            let mut literals = Vec::new(alloc);
-            read_goal(alloc, scope, goal, &mut literals, first)?;
+            let reader = Reader { alloc, scope };
+            let literals = read_goal(&reader, goal, first)?;
             blame_opposites(alloc, &literals, first)?;
             blame_more(more, first);
             without_places(alloc, literals)

@@ -10,9 +10,10 @@ ghost use Rattle.pddl_problem.specs.Initial as spec;
 use crate::grounding::ground;
 use crate::value::{keep_value, read_value};
 use indexmap::IndexMap;
-use pddl_syntax::{Fault, FaultKind, LimitedTable, blame, blame_if, blame_more};
+use pddl_effect::negated;
+use pddl_syntax::{Fault, FaultKind, LimitedTable, blame, blame_if};
 use pddl_task::{GroundAtom, LiftedAtom};
-use pddl_terms::{Beginning, Scope, Setting, beginning_of, lifted};
+use pddl_terms::{Beginning, HeadedList, Reader, Scope, Setting, atom, beginning_of};
 use sexp::Tree;
 use std::alloc::{AllocError, Global};
 
@@ -100,128 +101,37 @@ fn item_kind(head: &str, items: &[Tree]) -> ItemKind
     }
 }
 
-/// Records the faults of the negation of the list at `home` with this head, after the word `not` at `not_at`.
-#[tactic(auto, using(sexp::proofs::Walking::walking, pddl_syntax::proofs::Trees::noting), unfolding(pddl_syntax::specs::Faults::first_of))]
-fn blame_negated_list(
-    alloc: Global,
-    scope: &Scope,
-    home: usize,
-    not_at: usize,
-    head: &Tree,
-    terms: &[Tree],
-    first: &mut Option<Fault>,
-) -> Result<(), AllocError>
-    ensures { OnOk result (first.new ≡ first_of first.old (spec.negated_inside_faults scope.now not_at home (before head.now (views terms.now)))) }
-{
-    match head {
-        Tree::List { .. } => blame(first, not_at, FaultKind::Unsupported),
-        Tree::Word { text, span } => match beginning_of(Setting::InInitial, text.as_str()) {
-            Beginning::Atom => {
-                lifted(
-                    alloc,
-                    scope.predicates,
-                    scope,
-                    home,
-                    text.as_str(),
-                    span.start,
-                    terms,
-                    first,
-                )?;
-            }
-            _ => blame(first, not_at, FaultKind::Unsupported),
-        },
-    }
-    Ok(())
-}
-
-/// Records the faults of the negation of a tree, after the word `not` at `not_at`.
-#[tactic(auto, using(sexp::proofs::Walking::walking, pddl_syntax::proofs::Trees::noting), unfolding(pddl_syntax::specs::Faults::first_of))]
-fn blame_negated_tree(
-    alloc: Global,
-    scope: &Scope,
-    not_at: usize,
-    tree: &Tree,
-    first: &mut Option<Fault>,
-) -> Result<(), AllocError>
-    ensures { (rest : Forms) → OnOk result (first.new ≡ first_of first.old (spec.first_negated_faults scope.now not_at (before tree.now rest))) }
-{
-    match tree {
-        Tree::Word { .. } => blame(first, not_at, FaultKind::Unsupported),
-        Tree::List { items, span } => match items.as_slice() {
-            [] => blame(first, not_at, FaultKind::Unsupported),
-            [head, terms @ ..] => blame_negated_list(
-                alloc, scope, span.start, not_at, head, terms, first,
-            )?,
-        },
-    }
-    Ok(())
-}
-
-/// Records the faults of the items after the word `not` at `not_at`, in the list at `home`.
-#[tactic(auto, using(sexp::proofs::Walking::walking, pddl_syntax::proofs::Trees::noting, crate::proofs::Steps::negated_step), unfolding(pddl_syntax::specs::Faults::first_of))]
-fn blame_negated(
-    alloc: Global,
-    scope: &Scope,
-    home: usize,
-    not_at: usize,
-    items: &[Tree],
-    first: &mut Option<Fault>,
-) -> Result<(), AllocError>
-    ensures { OnOk result (first.new ≡ first_of first.old (spec.negated_item_faults scope.now home not_at (views items.now))) }
-{
-    match items {
-        [] => blame(first, home, FaultKind::Shape),
-        [one, more @ ..] => {
-            blame_negated_tree(alloc, scope, not_at, one, first)?;
-            blame_more(more, first);
-        }
-    }
-    Ok(())
-}
-
-/// Reads the item at `home`, a list with this head.
-#[tactic(auto, using(sexp::proofs::Walking::walking, pddl_syntax::proofs::Trees::noting, crate::proofs::Steps::appending), unfolding(pddl_syntax::specs::Faults::first_of))]
-fn headed(
-    alloc: Global,
-    scope: &Scope,
-    home: usize,
-    head: &Tree,
-    parts: &[Tree],
+/// Reads an item, a list that begins with a word.
+#[tactic(auto, using(pddl_syntax::proofs::Trees::noting, crate::proofs::Steps::appending), unfolding(pddl_syntax::specs::Faults::first_of))]
+fn read_list(
+    reader: &Reader,
+    list: &HeadedList,
     state: &mut Initial,
     first: &mut Option<Fault>,
 ) -> Result<(), AllocError>
-    ensures atoms { OnOk result (state.new.atoms.items ≡ state.old.atoms.items ++ option_to_list (spec.atom_inside scope.now (before head.now (views parts.now)))) }
+    ensures atoms { OnOk result (
+        state.new.atoms.items ≡ state.old.atoms.items ++ option_to_list (spec.item_atom reader.now list.now.head (views list.now.rest) (spec.item_kind list.now.head (views list.now.rest)))) }
     ensures values { OnOk result (
-        spec.values_of state.new.values.entries ≡ spec.with_value (spec.values_of state.old.values.entries) (spec.value_inside scope.now (before head.now (views parts.now)))) }
+        spec.values_of state.new.values.entries ≡ spec.with_value (spec.values_of state.old.values.entries) (spec.item_value reader.now (views list.now.rest) (spec.item_kind list.now.head (views list.now.rest)))) }
     ensures faults { (fs : List FaultAt) → OnOk result (
-        first_of first.old (spec.inside_faults scope.now home (before head.now (views parts.now))
-        ++ faults_if (spec.is_restated (spec.values_of state.old.values.entries) (spec.value_inside scope.now (before head.now (views parts.now)))) (fault Twice home) fs)
+        first_of first.old (spec.item_faults reader.now list.now.start list.now.head_start list.now.head (views list.now.rest) (spec.item_kind list.now.head (views list.now.rest))
+        ++ faults_if (spec.is_restated (spec.values_of state.old.values.entries) (spec.item_value reader.now (views list.now.rest) (spec.item_kind list.now.head (views list.now.rest)))) (fault Twice list.now.start) fs)
         ≡ first_of first.new fs) }
 {
-    match head {
-        Tree::List { span, .. } => blame(first, span.start, FaultKind::Shape),
-        Tree::Word { text, span } => match item_kind(text.as_str(), parts) {
-            ItemKind::Negated => blame_negated(alloc, scope, home, span.start, parts, first)?,
-            ItemKind::NotRead => blame(first, span.start, FaultKind::Unsupported),
-            ItemKind::Nothing => blame(first, span.start, FaultKind::Shape),
-            ItemKind::Value => {
-                let stated = read_value(alloc, scope, home, parts, first)?;
-                keep_value(&mut state.values, stated, home, first)?
-            }
-            ItemKind::TrueAtom => {
-                let atom = lifted(
-                    alloc,
-                    scope.predicates,
-                    scope,
-                    home,
-                    text.as_str(),
-                    span.start,
-                    parts,
-                    first,
-                )?;
-                state.keep_atom(alloc, atom)?
-            }
-        },
+    match item_kind(list.head, list.rest) {
+        ItemKind::Negated => {
+            negated(Setting::InInitial, reader, list, first)?;
+        }
+        ItemKind::NotRead => blame(first, list.head_start, FaultKind::Unsupported),
+        ItemKind::Nothing => blame(first, list.head_start, FaultKind::Shape),
+        ItemKind::Value => {
+            let stated = read_value(reader, list, first)?;
+            keep_value(&mut state.values, stated, list.start, first)?
+        }
+        ItemKind::TrueAtom => {
+            let atom = atom(reader, list, first)?;
+            state.keep_atom(reader.alloc, atom)?
+        }
     }
     Ok(())
 }
@@ -229,26 +139,34 @@ fn headed(
 /// Reads a tree as an item, adds its meaning to `state` and records its faults in `first`.
 #[tactic(auto, using(sexp::proofs::Walking::walking, pddl_syntax::proofs::Trees::noting, crate::proofs::Steps::appending), unfolding(pddl_syntax::specs::Faults::first_of))]
 fn read_item(
-    alloc: Global,
-    scope: &Scope,
+    reader: &Reader,
     tree: &Tree,
     state: &mut Initial,
     first: &mut Option<Fault>,
 ) -> Result<(), AllocError>
     ensures atoms { (rest : Forms) → OnOk result (
-        state.old.atoms.items ++ spec.initial_atoms scope.now (before tree.now rest) ≡ state.new.atoms.items ++ spec.initial_atoms scope.now rest) }
+        state.old.atoms.items ++ spec.initial_atoms reader.now (before tree.now rest) ≡ state.new.atoms.items ++ spec.initial_atoms reader.now rest) }
     ensures values { (rest : Forms) → OnOk result (
-        spec.stated_values scope.now (spec.values_of state.old.values.entries) (before tree.now rest)
-        ≡ spec.stated_values scope.now (spec.values_of state.new.values.entries) rest) }
+        spec.stated_values reader.now (spec.values_of state.old.values.entries) (before tree.now rest)
+        ≡ spec.stated_values reader.now (spec.values_of state.new.values.entries) rest) }
     ensures faults { (n : ℕ) (rest : Forms) → OnOk result (
-        first_of first.old (spec.initial_faults scope.now n (spec.values_of state.old.values.entries) (before tree.now rest))
-        ≡ first_of first.new (spec.past_limit n (start_of (before tree.now rest)) (spec.initial_faults scope.now (n + 1) (spec.values_of state.new.values.entries) rest))) }
+        first_of first.old (spec.initial_faults reader.now n (spec.values_of state.old.values.entries) (before tree.now rest))
+        ≡ first_of first.new (spec.past_limit n (start_of (before tree.now rest)) (spec.initial_faults reader.now (n + 1) (spec.values_of state.new.values.entries) rest))) }
 {
     match tree {
         Tree::Word { span, .. } => blame(first, span.start, FaultKind::Shape),
         Tree::List { items, span } => match items.as_slice() {
             [] => blame(first, span.start, FaultKind::Shape),
-            [head, parts @ ..] => headed(alloc, scope, span.start, head, parts, state, first)?,
+            [head, rest @ ..] => match head {
+                Tree::List { span, .. } => blame(first, span.start, FaultKind::Shape),
+                Tree::Word {
+                    text,
+                    span: head_span,
+                } => {
+                    let list = HeadedList::new(*span, text.as_str(), *head_span, rest);
+                    read_list(reader, &list, state, first)?
+                }
+            },
         },
     }
     Ok(())
@@ -257,20 +175,19 @@ fn read_item(
 /// Reads the items in their order, adds their meaning to `state` and records their faults in `first`.
 #[tactic(auto, using(sexp::proofs::Walking::walking), unfolding(pddl_syntax::specs::Faults::first_of))]
 fn read_items(
-    alloc: Global,
-    scope: &Scope,
+    reader: &Reader,
     items: &[Tree],
     state: &mut Initial,
     first: &mut Option<Fault>,
 ) -> Result<(), AllocError>
-    ensures atoms { OnOk result (state.new.atoms.items ≡ state.old.atoms.items ++ spec.initial_atoms scope.now (views items.now)) }
+    ensures atoms { OnOk result (state.new.atoms.items ≡ state.old.atoms.items ++ spec.initial_atoms reader.now (views items.now)) }
     ensures values { OnOk result (
-        spec.values_of state.new.values.entries ≡ spec.stated_values scope.now (spec.values_of state.old.values.entries) (views items.now)) }
+        spec.values_of state.new.values.entries ≡ spec.stated_values reader.now (spec.values_of state.old.values.entries) (views items.now)) }
     ensures faults { OnOk result (
-        first.new ≡ first_of first.old (spec.initial_faults scope.now 0 (spec.values_of state.old.values.entries) (views items.now))) }
+        first.new ≡ first_of first.old (spec.initial_faults reader.now 0 (spec.values_of state.old.values.entries) (views items.now))) }
 {
     for (count, item) in items.iter().enumerate() {
-        read_item(alloc, scope, item, state, first)?;
+        read_item(reader, item, state, first)?;
         blame_if(
             count == MAX_ITEMS,
             first,
@@ -302,6 +219,7 @@ pub fn initial_section(
     ensures faults { OnOk result (first.new ≡ first_of first.old (spec.initial_faults scope.now 0 [] (views items.now))) }
 {
     let mut state = Initial::new(alloc);
-    read_items(alloc, scope, items, &mut state, first)?;
+    let reader = Reader { alloc, scope };
+    read_items(&reader, items, &mut state, first)?;
     Ok(state)
 }

@@ -16,9 +16,9 @@ use pddl_syntax::{
     Fault, FaultKind, Number, WordKind, blame, blame_if, blame_more, number_of, word_kind,
 };
 use pddl_task::GroundAtom;
-use pddl_terms::{Scope, is_total_cost, lifted};
+use pddl_terms::{HeadedList, Reader, function, is_total_cost};
 use sexp::Tree;
-use std::alloc::{AllocError, Global};
+use std::alloc::AllocError;
 use std::marker::Model;
 
 /// The initial value of a function at objects.
@@ -131,98 +131,72 @@ pub fn is_nothing(items: &[Tree]) -> bool
     }
 }
 
-/// Returns the function named by the word at `at` with these terms, in the list at `home`; the items `behind` follow
-/// it. The total cost has no initial value: the result for it is `None`, and 0 is the only value that may be stated.
+/// Returns a list as a function with its terms. The items `behind` follow the list. The total cost has no initial
+/// value: the result for it is `None`, and 0 is the only value that may be stated.
 #[tactic(auto, using(pddl_syntax::proofs::Trees::noting), unfolding(pddl_syntax::specs::Faults::first_of))]
 fn function_term(
-    alloc: Global,
-    scope: &Scope,
-    home: usize,
-    word: &str,
-    at: usize,
-    terms: &[Tree],
+    reader: &Reader,
+    list: &HeadedList,
     behind: &[Tree],
     first: &mut Option<Fault>,
 ) -> Result<Option<GroundAtom>, AllocError>
-    ensures meaning { IfOk result (λ a. a ≡ spec.function_by_kind scope.now word.now (views terms.now) (word_kind word.now)) }
-    ensures faults { OnOk result (first.new ≡ first_of first.old (spec.function_faults scope.now home at word.now (views terms.now) (views behind.now) (word_kind word.now))) }
+    ensures meaning { IfOk result (λ a. a ≡ spec.function_by_kind reader.now list.now.head (views list.now.rest) (word_kind list.now.head)) }
+    ensures faults { OnOk result (first.new ≡ first_of first.old
+        (spec.function_faults reader.now list.now.start list.now.head_start list.now.head (views list.now.rest) (views behind.now) (word_kind list.now.head))) }
 {
-    if word_kind(word) != WordKind::Name {
-        blame(first, at, FaultKind::Shape);
+    if word_kind(list.head) != WordKind::Name {
+        blame(first, list.head_start, FaultKind::Shape);
         return Ok(None);
     }
-    if is_total_cost(word) {
-        blame_if(!is_nothing(terms), first, home, FaultKind::Arity);
-        blame_if(is_positive(behind), first, at, FaultKind::Unsupported);
-        return Ok(None);
-    }
-    let function = lifted(alloc, scope.functions, scope, home, word, at, terms, first)?;
-    ground(alloc, function)
-}
-
-/// Returns the list at `home` with this head as a function with its terms. The items `behind` follow it.
-#[tactic(auto, using(sexp::proofs::Walking::walking, pddl_syntax::proofs::Trees::noting), unfolding(pddl_syntax::specs::Faults::first_of))]
-fn function_list(
-    alloc: Global,
-    scope: &Scope,
-    home: usize,
-    head: &Tree,
-    terms: &[Tree],
-    behind: &[Tree],
-    first: &mut Option<Fault>,
-) -> Result<Option<GroundAtom>, AllocError>
-    ensures meaning { IfOk result (λ a. a ≡ spec.function_inside scope.now (before head.now (views terms.now))) }
-    ensures faults { OnOk result (first.new ≡ first_of first.old (spec.function_inside_faults scope.now home (views behind.now) (before head.now (views terms.now)))) }
-{
-    match head {
-        Tree::List { span, .. } => {
-            blame(first, span.start, FaultKind::Shape);
-            Ok(None)
-        }
-        Tree::Word { text, span } => function_term(
-            alloc,
-            scope,
-            home,
-            text.as_str(),
-            span.start,
-            terms,
-            behind,
+    if is_total_cost(list.head) {
+        blame_if(!is_nothing(list.rest), first, list.start, FaultKind::Arity);
+        blame_if(
+            is_positive(behind),
             first,
-        ),
+            list.head_start,
+            FaultKind::Unsupported,
+        );
+        return Ok(None);
     }
+    let function = function(reader, list, first)?;
+    ground(reader.alloc, function)
 }
 
-/// Returns a tree as a function with its terms. The items `behind` follow it.
+/// Returns a tree as a function with its terms; a function without terms needs no parentheses. The items
+/// `behind` follow the tree.
 #[tactic(auto, using(sexp::proofs::Walking::walking, pddl_syntax::proofs::Trees::noting), unfolding(pddl_syntax::specs::Faults::first_of))]
-fn function(
-    alloc: Global,
-    scope: &Scope,
+fn function_tree(
+    reader: &Reader,
     tree: &Tree,
     behind: &[Tree],
     first: &mut Option<Fault>,
 ) -> Result<Option<GroundAtom>, AllocError>
-    ensures meaning { (rest : Forms) → IfOk result (λ a. a ≡ spec.first_function scope.now (before tree.now rest)) }
-    ensures faults { OnOk result (first.new ≡ first_of first.old (spec.first_function_faults scope.now (before tree.now (views behind.now)))) }
+    ensures meaning { (rest : Forms) → IfOk result (λ a. a ≡ spec.first_function reader.now (before tree.now rest)) }
+    ensures faults { OnOk result (first.new ≡ first_of first.old (spec.first_function_faults reader.now (before tree.now (views behind.now)))) }
 {
     match tree {
-        Tree::Word { text, span } => function_term(
-            alloc,
-            scope,
-            span.start,
-            text.as_str(),
-            span.start,
-            &[],
-            behind,
-            first,
-        ),
+        Tree::Word { text, span } => {
+            let list = HeadedList::new(*span, text.as_str(), *span, &[]);
+            function_term(reader, &list, behind, first)
+        }
         Tree::List { items, span } => match items.as_slice() {
             [] => {
                 blame(first, span.start, FaultKind::Shape);
                 Ok(None)
             }
-            [head, terms @ ..] => function_list(
-                alloc, scope, span.start, head, terms, behind, first,
-            ),
+            [head, rest @ ..] => match head {
+                Tree::List { span, .. } => {
+                    blame(first, span.start, FaultKind::Shape);
+                    Ok(None)
+                }
+                Tree::Word {
+                    text,
+                    span: head_span,
+                } => {
+                    let list = HeadedList::new(*span, text.as_str(), *head_span, rest);
+                    function_term(reader, &list, behind, first)
+                }
+            },
         },
     }
 }
@@ -236,27 +210,25 @@ fn value_by(function: Option<GroundAtom>, number: Option<u64>) -> Option<StatedV
     }
 }
 
-/// Reads `(= function number)` in the list at `home`, whose items without its head `=` are `items`. Records faults in
-/// `first`. Returns `None` if the function or the number cannot be read, and for the total cost.
+/// Reads a list `(= function number)`, and records its faults in `first`. Returns `None` if the function or the number
+/// cannot be read, and for the total cost.
 #[tactic(auto, using(sexp::proofs::Walking::walking, pddl_syntax::proofs::Trees::noting, crate::proofs::Steps::values), unfolding(pddl_syntax::specs::Faults::first_of))]
 pub fn read_value(
-    alloc: Global,
-    scope: &Scope,
-    home: usize,
-    items: &[Tree],
+    reader: &Reader,
+    list: &HeadedList,
     first: &mut Option<Fault>,
 ) -> Result<Option<StatedValue>, AllocError>
-    ensures meaning { IfOk result (λ v. v ≡ spec.stated scope.now (views items.now)) }
-    ensures faults { OnOk result (first.new ≡ first_of first.old (spec.value_faults scope.now home (views items.now))) }
+    ensures meaning { IfOk result (λ v. v ≡ spec.stated reader.now (views list.now.rest)) }
+    ensures faults { OnOk result (first.new ≡ first_of first.old (spec.value_faults reader.now list.now.start (views list.now.rest))) }
 {
-    match items {
+    match list.rest {
         [] => {
-            blame(first, home, FaultKind::Shape);
+            blame(first, list.start, FaultKind::Shape);
             Ok(None)
         }
         [one, behind @ ..] => {
-            let function = function(alloc, scope, one, behind, first)?;
-            let number = number_alone(home, behind, first);
+            let function = function_tree(reader, one, behind, first)?;
+            let number = number_alone(list.start, behind, first);
             Ok(value_by(function, number))
         }
     }

@@ -22,5 +22,5 @@ pub use requirements::requirements_section;
 pub use sections::{
     Section, all_sections, blame_more, find_section, read_heads, sections_of, without_first,
 };
-pub use typed::{Named, Run, Types, typed_list};
+pub use typed::{Named, Run, Types, blame_type_list, typed_list};
 pub use word::{WordKind, word_kind};

@@ -132,9 +132,10 @@ fn head_either_at(items: &[Tree]) -> Option<usize>
     }
 }
 
-/// Records the fault of a list in the position of a type: F11 at the word `either` if that is its head, otherwise F10.
+/// Records the fault of the list at `at` in the position of a type, whose items are `items`: F11 at the word `either`
+/// if that is its head, otherwise F10.
 #[tactic(auto, unfolding(crate::specs::Faults::first_of))]
-fn blame_type_list(items: &[Tree], at: usize, first: &mut Option<Fault>)
+pub fn blame_type_list(items: &[Tree], at: usize, first: &mut Option<Fault>)
     ensures { first.new ≡ first_of first.old (type_group_faults at (views items.now)) }
 {
     match head_either_at(items) {

@@ -5,9 +5,9 @@ use Rattle.pddl_syntax.specs.declared.word.WordKind.{WordKind}
 use Rattle.pddl_syntax.specs.declared.word.WordKind.TheVariants.{Name}
 use Rattle.pddl_syntax.specs.Words.{word_kind, is_one_of}
 use Rattle.pddl_terms.specs.declared.beginning.Beginning.{Beginning}
-use Rattle.pddl_terms.specs.declared.beginning.Beginning.TheVariants.{Conjunction, Negation, Equality, Increasing, Unread, Atom, NoName}
+use Rattle.pddl_terms.specs.declared.beginning.Beginning.TheVariants.{Conjunction, Negation, Equality, GoalEquality, Increasing, Unread, Atom, NoName}
 use Rattle.pddl_terms.specs.declared.beginning.Setting.{Setting}
-use Rattle.pddl_terms.specs.declared.beginning.Setting.TheVariants.{InCondition, InEffect, InInitial}
+use Rattle.pddl_terms.specs.declared.beginning.Setting.TheVariants.{InCondition, InGoal, InEffect, InInitial}
 
 -- the heads that are supported in no setting
 abbrev pub unsupported_heads : List (List ℕ)
@@ -26,12 +26,15 @@ other_beginning t =
     if same_text t (codes "not") then Negation
     else (if is_one_of unsupported_heads t then Unread else by_kind (word_kind t))
 
--- The construct in a condition or a goal, in an effect, or in an item of the initial state. Only a condition has
+-- The construct in a condition, in a goal, in an effect, or in an item of the initial state. Only a condition has
 -- equality, only an effect has increases, and in the initial state `and` is an ordinary predicate.
 abbrev pub beginning : Setting → List ℕ → Beginning
 beginning InCondition t =
     if same_text t (codes "and") then Conjunction
     else (if same_text t (codes "=") then Equality else other_beginning t)
+beginning InGoal t =
+    if same_text t (codes "and") then Conjunction
+    else (if same_text t (codes "=") then GoalEquality else other_beginning t)
 beginning InEffect t =
     if same_text t (codes "and") then Conjunction
     else (if same_text t (codes "increase") then Increasing else other_beginning t)

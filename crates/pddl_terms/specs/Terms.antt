@@ -1,6 +1,7 @@
 -- Terms, and predicates and functions with their terms: their meaning and their faults.
 use Rattle.std.specs.Prelude.{ℕ, ◌+◌, ◌==◌, not, Bool, true, false, codes, if◌then◌else◌, List, [], ◌∷◌, ◌++◌, length, Option, Some, None}
 use Rattle.std.specs.Option.{option_map}
+use Rattle.sexp.specs.declared.tree.Tree.{Tree}
 use Rattle.sexp.specs.Forms.{Forms, none, word, group}
 use Rattle.pddl_names.specs.Names.{same_text, place_of, is_there}
 use Rattle.pddl_task.specs.declared.schema.Term.{Term}
@@ -20,6 +21,13 @@ pub record Scope : Type 0 where
   pub functions : Heads
   pub variables : List (List ℕ)
   pub objects : List (List ℕ)
+
+-- a list that begins with a word: the byte offset of the list, the word and its byte offset, and the items after it
+pub record HeadedList : Type 0 where
+  pub start : ℕ
+  pub head : List ℕ
+  pub head_start : ℕ
+  pub rest : List Tree
 
 -- ---- terms
 

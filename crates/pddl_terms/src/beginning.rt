@@ -7,10 +7,11 @@ ghost use Rattle.pddl_terms.specs.Terms.{is_total_cost};
 
 use pddl_syntax::{WordKind, word_kind};
 
-/// The context of a list: a condition or a goal, an effect, or the initial state.
+/// The context of a list: a condition, a goal, an effect, or the initial state.
 #[derive(Clone, Copy, Debug, PartialEq, Eq)]
 pub enum Setting {
     InCondition,
+    InGoal,
     InEffect,
     InInitial,
 }
@@ -22,8 +23,10 @@ pub enum Beginning {
     Conjunction,
     /// `not`
     Negation,
-    /// `=`
+    /// `=` in a condition
     Equality,
+    /// `=` in a goal, in which it is not supported
+    GoalEquality,
     /// `increase`
     Increasing,
     /// A construct of PDDL that is not supported, such as `forall`.
@@ -76,6 +79,8 @@ pub fn beginning_of(setting: Setting, head: &str) -> Beginning
     match setting {
         Setting::InCondition if head == "and" => Beginning::Conjunction,
         Setting::InCondition if head == "=" => Beginning::Equality,
+        Setting::InGoal if head == "and" => Beginning::Conjunction,
+        Setting::InGoal if head == "=" => Beginning::GoalEquality,
         Setting::InEffect if head == "and" => Beginning::Conjunction,
         Setting::InEffect if head == "increase" => Beginning::Increasing,
         _ => other_beginning(head),

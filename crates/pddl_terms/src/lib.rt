@@ -7,5 +7,5 @@ mod reading;
 mod scope;
 
 pub use beginning::{Beginning, Setting, beginning_of, is_total_cost};
-pub use reading::{lifted, term, terms};
-pub use scope::Scope;
+pub use reading::{atom, function, term, terms};
+pub use scope::{HeadedList, Reader, Scope};

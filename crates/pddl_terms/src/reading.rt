@@ -6,11 +6,11 @@ ghost use Rattle.sexp.specs.Forms.{Forms, before, views};
 ghost use Rattle.pddl_syntax.specs.Faults.{first_of};
 ghost use Rattle.pddl_terms.specs.Terms as spec;
 
-use crate::scope::Scope;
+use crate::scope::{HeadedList, Reader, Scope};
 use pddl_syntax::{Fault, FaultKind, Heads, WordKind, blame, blame_if, word_kind};
 use pddl_task::{LiftedAtom, Term};
 use sexp::Tree;
-use std::alloc::{AllocError, Global};
+use std::alloc::AllocError;
 
 /// Returns the word as a term, if it is a declared variable or a declared object.
 fn term_of(scope: &Scope, word: &str) -> Option<Term>
@@ -67,18 +67,17 @@ pub fn term(scope: &Scope, tree: &Tree, first: &mut Option<Fault>) -> Option<Ter
 /// Reads terms and records their faults in `first`. Returns `None` if one of them has a fault.
 #[tactic(auto, using(sexp::proofs::Walking::walking, pddl_syntax::proofs::Trees::noting, crate::proofs::TermSteps::steps, crate::proofs::TermSteps::reading), unfolding(pddl_syntax::specs::Faults::first_of))]
 pub fn terms(
-    alloc: Global,
-    scope: &Scope,
+    reader: &Reader,
     items: &[Tree],
     first: &mut Option<Fault>,
 ) -> Result<Option<Vec<Term>>, AllocError>
-    ensures meaning { IfOk result (λ ts. option_map (λ v. v.items) ts ≡ spec.terms scope.now (views items.now)) }
-    ensures faults { OnOk result (first.new ≡ first_of first.old (spec.terms_faults scope.now (views items.now))) }
+    ensures meaning { IfOk result (λ ts. option_map (λ v. v.items) ts ≡ spec.terms reader.now (views items.now)) }
+    ensures faults { OnOk result (first.new ≡ first_of first.old (spec.terms_faults reader.now (views items.now))) }
 {
-    let mut terms = Vec::new(alloc);
+    let mut terms = Vec::new(reader.alloc);
     let mut are_read = true;
     for tree in items {
-        match term(scope, tree, first) {
+        match term(reader.scope, tree, first) {
             Some(term) => terms.push(term)?,
             None => are_read = false,
         }
@@ -103,44 +102,69 @@ fn lifted_of(
     }
 }
 
-/// Records in `first` that a head is not declared, or that its arity differs from the number of terms `given`.
-#[tactic(auto, unfolding(pddl_syntax::specs::Faults::first_of))]
-fn blame_arity(
-    arity: Option<usize>,
-    home: usize,
-    head_at: usize,
-    given: usize,
-    first: &mut Option<Fault>,
-)
-    ensures { first.new ≡ first_of first.old (spec.arity_faults arity home head_at given) }
+/// Records in `first` that the head of a list is not declared, or that its arity differs from the number of terms in
+/// the list.
+#[tactic(auto, using(crate::proofs::TermSteps::count_views), unfolding(pddl_syntax::specs::Faults::first_of))]
+fn blame_arity(arity: Option<usize>, list: &HeadedList, first: &mut Option<Fault>)
+    ensures { first.new ≡ first_of first.old (spec.arity_faults arity list.now.start list.now.head_start (spec.count (views list.now.rest))) }
 {
     match arity {
-        None => blame(first, head_at, FaultKind::UnknownName),
-        Some(arity) => blame_if(arity != given, first, home, FaultKind::Arity),
+        None => blame(first, list.head_start, FaultKind::UnknownName),
+        Some(arity) => blame_if(
+            arity != list.rest.len(),
+            first,
+            list.start,
+            FaultKind::Arity,
+        ),
     }
 }
 
-/// Reads a predicate or a function of `heads` with its terms, and records the faults in `first`. The list is at byte
-/// offset `home` and the head at byte offset `head_at`. Returns `None` if there is a fault.
-///
-/// F12 at the head or at a term that is not declared, F13 at the list if the head has another arity, F10 at a term of
-/// another form.
-#[tactic(auto, using(crate::proofs::TermSteps::count_views, pddl_syntax::proofs::Trees::noting), unfolding(pddl_syntax::specs::Faults::first_of))]
-pub fn lifted(
-    alloc: Global,
+/// Reads a list as a predicate or a function of `heads` with its terms.
+#[tactic(auto, using(pddl_syntax::proofs::Trees::noting), unfolding(pddl_syntax::specs::Faults::first_of))]
+fn lifted(
+    reader: &Reader,
     heads: &Heads,
-    scope: &Scope,
-    home: usize,
-    head: &str,
-    head_at: usize,
-    items: &[Tree],
+    list: &HeadedList,
     first: &mut Option<Fault>,
 ) -> Result<Option<LiftedAtom>, AllocError>
-    ensures meaning { IfOk result (λ a. a ≡ spec.lifted heads.now scope.now head.now (views items.now)) }
-    ensures faults { OnOk result (first.new ≡ first_of first.old (spec.lifted_faults heads.now scope.now home head_at head.now (views items.now))) }
+    ensures meaning { IfOk result (λ a. a ≡ spec.lifted heads.now reader.now list.now.head (views list.now.rest)) }
+    ensures faults { OnOk result (first.new ≡ first_of first.old
+        (spec.lifted_faults heads.now reader.now list.now.start list.now.head_start list.now.head (views list.now.rest))) }
 {
-    let arity = heads.arity_of(head);
-    blame_arity(arity, home, head_at, items.len(), first);
-    let terms = terms(alloc, scope, items, first)?;
-    Ok(lifted_of(heads.names().place_of(head), arity, terms))
+    let arity = heads.arity_of(list.head);
+    blame_arity(arity, list, first);
+    let terms = terms(reader, list.rest, first)?;
+    Ok(lifted_of(heads.names().place_of(list.head), arity, terms))
+}
+
+/// Reads a list as an atom, and records its faults in `first`. Returns `None` if there is a fault.
+///
+/// F12 at the head or at a term that is not declared, F13 at the list if the predicate has another arity, F10 at a term
+/// of another form.
+pub fn atom(
+    reader: &Reader,
+    list: &HeadedList,
+    first: &mut Option<Fault>,
+) -> Result<Option<LiftedAtom>, AllocError>
+    ensures meaning { IfOk result (λ a. a ≡ spec.lifted reader.now.predicates reader.now list.now.head (views list.now.rest)) }
+    ensures faults { OnOk result (first.new ≡ first_of first.old
+        (spec.lifted_faults reader.now.predicates reader.now list.now.start list.now.head_start list.now.head (views list.now.rest))) }
+{
+    let scope = reader.scope;
+    lifted(reader, scope.predicates, list, first)
+}
+
+/// Reads a list as a function with its terms, and records its faults in `first`. Returns `None` if there is a fault.
+/// The faults are those of [`atom`].
+pub fn function(
+    reader: &Reader,
+    list: &HeadedList,
+    first: &mut Option<Fault>,
+) -> Result<Option<LiftedAtom>, AllocError>
+    ensures meaning { IfOk result (λ a. a ≡ spec.lifted reader.now.functions reader.now list.now.head (views list.now.rest)) }
+    ensures faults { OnOk result (first.new ≡ first_of first.old
+        (spec.lifted_faults reader.now.functions reader.now list.now.start list.now.head_start list.now.head (views list.now.rest))) }
+{
+    let scope = reader.scope;
+    lifted(reader, scope.functions, list, first)
 }

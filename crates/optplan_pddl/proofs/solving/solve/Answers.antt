@@ -1,6 +1,6 @@
 use Rattle.std.proofs.Common.{Bool, subst}
 use Rattle.std.proofs.lemmas.Result.{err_from_is_err_and}
-use Rattle.optplan_solver.specs.Searches.{IsRefusedByThreads}
+use Rattle.optplan_solver.specs.ThreadedSearches.{IsRefusedByThreads}
 use Rattle.optplan_pddl.specs.Prepared.{IsPrepared}
 use Rattle.optplan_pddl.proofs.Answering.{text_refused}
 use Rattle.optplan_pddl.proofs.solving.solve.Goals as goal

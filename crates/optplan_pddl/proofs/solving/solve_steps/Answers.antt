@@ -1,6 +1,6 @@
 use Rattle.std.proofs.Common.{Bool, subst}
 use Rattle.std.proofs.lemmas.Result.{err_from_is_err_and}
-use Rattle.optplan_solver.specs.Searches.{IsRefusedAfter}
+use Rattle.optplan_search.specs.Searches.{IsRefusedAfter}
 use Rattle.optplan_pddl.specs.Prepared.{IsPrepared}
 use Rattle.optplan_pddl.proofs.Answering.{text_refused}
 use Rattle.optplan_pddl.proofs.solving.solve_steps.Goals as goal

@@ -1,4 +1,4 @@
-use Rattle.optplan_solver.specs.Searches.{EndsAfter}
+use Rattle.optplan_search.specs.Searches.{EndsAfter}
 use Rattle.optplan_sas.proofs.Answering.{found_plans, answered}
 use Rattle.optplan_sas.proofs.sas.after_steps.Goals as goal
 

@@ -1,5 +1,5 @@
 use Rattle.std.proofs.lemmas.Result.{err_from_is_err_and}
-use Rattle.optplan_solver.specs.Searches.{IsRefusedBySeed}
+use Rattle.optplan_search.specs.Searches.{IsRefusedBySeed}
 use Rattle.optplan_sas.proofs.Answering.{text_refused}
 use Rattle.optplan_sas.proofs.sas.simulate_sas.Goals as goal
 

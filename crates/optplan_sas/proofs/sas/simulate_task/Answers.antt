@@ -1,4 +1,4 @@
-use Rattle.optplan_solver.specs.Searches.{EndsBySeed}
+use Rattle.optplan_search.specs.Searches.{EndsBySeed}
 use Rattle.optplan_sas.proofs.Answering.{found_plans, answered}
 use Rattle.optplan_sas.proofs.sas.simulate_task.Goals as goal
 

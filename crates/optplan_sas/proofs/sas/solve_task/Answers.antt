@@ -1,4 +1,4 @@
-use Rattle.optplan_solver.specs.Searches.{EndsByThreads}
+use Rattle.optplan_solver.specs.ThreadedSearches.{EndsByThreads}
 use Rattle.optplan_sas.proofs.Answering.{found_plans, answered}
 use Rattle.optplan_sas.proofs.sas.solve_task.Goals as goal
 

@@ -1,7 +1,7 @@
 use Rattle.std.proofs.Common.{refl}
 use Rattle.std.proofs.lemmas.Result.{err_from_is_err_and}
 use Rattle.optplan_pddl.proofs.Answering.{search_refused}
-use Rattle.optplan_solver.specs.declared.fault.SearchFault.TheVariants.{OutOfMemory}
+use Rattle.optplan_search.specs.declared.fault.SearchFault.TheVariants.{OutOfMemory}
 use Rattle.optplan_solve.specs.Schedules.{IsRefusedBy}
 use Rattle.optplan_solve.proofs.Refusals.{memory_refused}
 use Rattle.optplan_solve.proofs.solving.planned.Goals as goal

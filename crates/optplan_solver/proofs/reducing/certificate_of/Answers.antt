@@ -1,6 +1,6 @@
 use Rattle.std.proofs.Common.{subst}
 use Rattle.std.specs.Option.{option_map}
-use Rattle.optplan_solver.specs.Findings.{plain, IsCertifiedBy}
+use Rattle.optplan_search.specs.Findings.{plain, IsCertifiedBy}
 use Rattle.optplan_solver.proofs.ReducedFindings.{certified_in_task}
 use Rattle.optplan_solver.proofs.reducing.certificate_of.Goals as goal
 

@@ -1,6 +1,6 @@
 use Rattle.std.proofs.Common.{sym}
 use Rattle.std.proofs.lemmas.Result.{IfErr-weaker}
-use Rattle.optplan_solver.specs.Searches.{IsRefusedIn, IsRefusedByThreads}
+use Rattle.optplan_solver.specs.ThreadedSearches.{IsRefusedIn, IsRefusedByThreads}
 use Rattle.optplan_solver.proofs.SearchedTasks.{itself, refused_by_threads}
 use Rattle.optplan_solver.proofs.reducing.found_by_threads.Goals as goal
 

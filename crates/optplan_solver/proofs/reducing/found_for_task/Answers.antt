@@ -1,8 +1,8 @@
 use Rattle.std.proofs.Common.{ℕ, sym, subst}
 use Rattle.std.specs.Option.{option_map}
 use Rattle.packed_spread.specs.Spreads.{zobrist_owner}
-use Rattle.optplan_solver.specs.SearchEnds.{least_best_of}
-use Rattle.optplan_solver.specs.Findings.{plain, IsFoundFor, IsShortEnd}
+use Rattle.optplan_search.specs.SearchEnds.{least_best_of}
+use Rattle.optplan_search.specs.Findings.{plain, IsFoundFor, IsShortEnd}
 use Rattle.optplan_solver.proofs.reducing.found_for_task.Goals as goal
 
 pub returns-in_ok-known-in-Limit : goal.returns-in_ok-known-in-Limit

@@ -3,7 +3,7 @@ use Rattle.std.proofs.lemmas.Result.{err_from_is_err_and}
 use Rattle.std.specs.Option.{option_map}
 use Rattle.fdr.specs.Tasks.{FiniteDomainTask}
 use Rattle.packed_spread.specs.Spreads.{zobrist_owner}
-use Rattle.optplan_solver.specs.Findings.{plain, IsFoundFor}
+use Rattle.optplan_search.specs.Findings.{plain, IsFoundFor}
 use Rattle.optplan_solver.specs.Reduced.{IsReductionOf}
 use Rattle.optplan_solver.proofs.SearchedTasks.{refused_by_threads, reduced, found_reduced}
 use Rattle.optplan_solver.proofs.reducing.found_with_reduction.Goals as goal

@@ -3,7 +3,7 @@ use Rattle.std.specs.Option.{option_map}
 use Rattle.cost.specs.Distances.{Finite}
 use Rattle.fdr.specs.Tasks.{EveryPlanCostsAtLeast}
 use Rattle.cert_value.specs.Views.{kind_of}
-use Rattle.optplan_solver.specs.Findings.{wants, IsCertifiedBy}
+use Rattle.optplan_search.specs.Findings.{wants, IsCertifiedBy}
 use Rattle.optplan_solver.specs.Reduced.{stated_classes}
 use Rattle.optplan_solver.proofs.reducing.solution_for_task.Goals as goal
 

@@ -6,8 +6,8 @@ use Rattle.std.specs.Global.{Global}
 use Rattle.abstraction_mapping.specs.declared.mapping.Mapping.{Mapping as KeptMapping}
 use Rattle.scp.specs.Partitions.{mappings_of}
 use Rattle.std.specs.Option.{option_map}
-use Rattle.optplan_solver.specs.Findings.{plain, IsOwnFinding}
-use Rattle.optplan_solver.specs.Searches.{EndsIn, stops_in}
+use Rattle.optplan_search.specs.Findings.{plain, IsOwnFinding}
+use Rattle.optplan_solver.specs.ThreadedSearches.{EndsIn, stops_in}
 use Rattle.scp_orders.specs.Orders.{IsOrder, AreOrders}
 use Rattle.optplan_solver.specs.Stages.{IsStageFound}
 use Rattle.optplan_options.specs.declared.options.Tables.TheVariants.{Staged}

@@ -2,7 +2,7 @@ use Rattle.std.proofs.Common.{map}
 use Rattle.std.specs.Option.{option_map}
 use Rattle.scp.specs.Partitions.{mappings_of}
 use Rattle.scp_orders.specs.Orders.{AreOrders}
-use Rattle.optplan_solver.specs.Findings.{plain}
+use Rattle.optplan_search.specs.Findings.{plain}
 use Rattle.optplan_solver.proofs.KnownByStages.{HaveEnded}
 use Rattle.optplan_solver.proofs.stages.found_by_stages.Given as goal
 

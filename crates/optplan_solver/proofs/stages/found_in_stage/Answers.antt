@@ -1,8 +1,8 @@
 use Rattle.std.proofs.Common.{Bool, is_some, subst}
 use Rattle.std.specs.Prelude.{IfOk}
 use Rattle.std.specs.Option.{option_map}
-use Rattle.optplan_solver.specs.Findings.{plain}
-use Rattle.optplan_solver.specs.Searches.{stops_in}
+use Rattle.optplan_search.specs.Findings.{plain}
+use Rattle.optplan_solver.specs.ThreadedSearches.{stops_in}
 use Rattle.optplan_solver.specs.Stages.{IsStageFound}
 use Rattle.optplan_solver.proofs.stages.found_in_stage.Goals as goal
 

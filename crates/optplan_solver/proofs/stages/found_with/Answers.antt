@@ -2,8 +2,8 @@ use Rattle.std.proofs.Common.{subst}
 use Rattle.std.specs.Prelude.{IfOk, IfErr}
 use Rattle.fdr.specs.Tasks.{FiniteDomainTask}
 use Rattle.std.specs.Option.{option_map}
-use Rattle.optplan_solver.specs.Findings.{plain}
-use Rattle.optplan_solver.specs.Searches.{IsRefusedIn}
+use Rattle.optplan_search.specs.Findings.{plain}
+use Rattle.optplan_solver.specs.ThreadedSearches.{IsRefusedIn}
 use Rattle.optplan_solver.specs.Stages.{IsStageFound}
 use Rattle.optplan_solver.proofs.ThreadEnds.{of_own_task}
 use Rattle.optplan_solver.proofs.stages.found_with.Goals as goal

@@ -1,7 +1,7 @@
 use Rattle.std.proofs.Common.{Bool, false, is_some, subst}
 use Rattle.std.specs.Option.{option_map}
-use Rattle.optplan_solver.specs.Findings.{plain}
-use Rattle.optplan_solver.specs.Searches.{stops_in}
+use Rattle.optplan_search.specs.Findings.{plain}
+use Rattle.optplan_solver.specs.ThreadedSearches.{stops_in}
 use Rattle.optplan_solver.specs.Stages.{IsStageFound}
 use Rattle.optplan_solver.specs.declared.stages.StageFound.TheVariants.{Answered}
 use Rattle.optplan_solver.proofs.KnownByStages.{found_in_stage}

@@ -2,8 +2,8 @@ use Rattle.std.proofs.Common.{sym, subst, ◌∙◌}
 use Rattle.std.specs.Prelude.{IfOk}
 use Rattle.std.proofs.lemmas.Result.{IfOk-weaker}
 use Rattle.std.specs.Option.{option_map}
-use Rattle.optplan_solver.specs.Findings.{plain, IsOwnFinding}
-use Rattle.optplan_solver.specs.Searches.{EndsIn}
+use Rattle.optplan_search.specs.Findings.{plain, IsOwnFinding}
+use Rattle.optplan_solver.specs.ThreadedSearches.{EndsIn}
 use Rattle.optplan_solver.specs.Stages.{IsSearchFound}
 use Rattle.optplan_options.specs.declared.options.Tables.{Tables}
 use Rattle.optplan_options.specs.declared.options.Tables.TheVariants.{Goal}

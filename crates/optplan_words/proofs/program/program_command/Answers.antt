@@ -1,7 +1,6 @@
-use Rattle.std.proofs.Common.{◌≡◌, IfOk, ◌∷◌, [], codes}
+use Rattle.std.proofs.Common.{◌≡◌, [], codes}
 use Rattle.std.proofs.lemmas.Result.{IfOk-weaker}
 use Rattle.clap.specs.Words.{App, AddsSubcommand, app_of, with_subcommand}
-use Rattle.clap.specs.declared.builder.command.Command.{Command}
 use Rattle.optplan_words.specs.Commands as spec
 use Rattle.optplan_words.specs.Commands.{program}
 use Rattle.optplan_words.proofs.Adding.{IsApp, adds_command}

@@ -1,7 +1,7 @@
-use Rattle.std.proofs.Common.{◌≡◌, true, IfOk, IfErr, map, ap, subst, ◌∙◌}
+use Rattle.std.proofs.Common.{◌≡◌, true, IfOk, map, ap, subst, ◌∙◌}
 use Rattle.std.specs.String.{string_bytes}
 use Rattle.std.proofs.lemmas.Result.{IfOk-weaker}
-use Rattle.clap.specs.Words.{App, FailsBy, HasMatchesOf, Kinds, app_of, fault_of, is_simple_and_free, kind_of, subcommand_of, subcommand_rows_of, takes}
+use Rattle.clap.specs.Words.{App, FailsBy, HasMatchesOf, app_of, fault_of, is_simple_and_free, subcommand_of, subcommand_rows_of}
 use Rattle.optplan_words.specs.Commands.{program}
 use Rattle.optplan_words.proofs.Simple.{program_is_simple, program_is_free}
 use Rattle.optplan_words.proofs.program.requested.Goals as goal

@@ -1,4 +1,4 @@
-use Rattle.std.proofs.Common.{IfOk, ◌++◌}
+use Rattle.std.proofs.Common.{◌++◌}
 use Rattle.std.proofs.lemmas.Result.{IfOk-weaker}
 use Rattle.optplan_words.specs.Commands as spec
 use Rattle.optplan_words.specs.Commands.{AddsRules}

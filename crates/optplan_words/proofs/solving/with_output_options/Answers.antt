@@ -1,6 +1,6 @@
-use Rattle.std.proofs.Common.{◌≡◌, List, [], ◌∷◌, ◌++◌, IfOk, codes}
+use Rattle.std.proofs.Common.{[], ◌∷◌, codes}
 use Rattle.std.proofs.lemmas.Result.{IfOk-weaker}
-use Rattle.clap.specs.Words.{Rule, rule_of}
+use Rattle.clap.specs.Words.{rule_of}
 use Rattle.optplan_words.specs.Commands as spec
 use Rattle.optplan_words.specs.Commands.{AddsRules}
 use Rattle.optplan_words.proofs.Adding.{adds_arg, adds_one_more}

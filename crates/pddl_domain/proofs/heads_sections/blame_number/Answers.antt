@@ -18,4 +18,4 @@ pub returns-in-List : goal.returns-in-List
 returns-in-List c = λ known home heads count rest.
     let old = c.args.first.now in
     ap (λ (f : Forms). first_of old (faults_behind known home heads count f)) (list_is c.args.tree.now c.in-List.items c.in-List.span c.deref.result.now rest c.in-List.is c.deref.ensures.value)
-    ∙ noted old c.blame_number_list.new.first (type_group_faults c.in-List.span.start (views c.deref.result.now)) (functions_faults known home true heads count rest) c.blame_number_list.ensures
+    ∙ noted old c.blame_type_list.new.first (type_group_faults c.in-List.span.start (views c.deref.result.now)) (functions_faults known home true heads count rest) c.blame_type_list.ensures

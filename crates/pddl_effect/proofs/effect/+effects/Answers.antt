@@ -1,122 +1,41 @@
-use Rattle.std.proofs.Common.{rules, arith}
+use Rattle.std.proofs.Common.{◌≡◌, ◌⊎◌, inl, inr, ℕ, Bool, true, false, if◌then◌else◌, List, [], sym, ap, ◌∙◌, arith}
+use Rattle.sexp.specs.Forms.{views}
 use Rattle.sexp.proofs.Walking.{walking}
-use Rattle.pddl_syntax.proofs.Trees.{noting}
-use Rattle.pddl_syntax.specs.Faults.{first_of}
+use Rattle.pddl_syntax.specs.declared.word.WordKind.{WordKind}
+use Rattle.pddl_syntax.specs.declared.word.WordKind.TheVariants.{Dash, Name, Variable, Other}
+use Rattle.pddl_terms.specs.declared.beginning.Beginning.{Beginning}
+use Rattle.pddl_terms.specs.declared.beginning.Beginning.TheVariants.{Conjunction, Negation, Equality, GoalEquality, Increasing, Unread, NoName}
+use Rattle.pddl_terms.specs.declared.beginning.Setting.TheVariants.{InEffect}
+use Rattle.pddl_terms.specs.Beginnings.{by_kind, beginning}
+use Rattle.pddl_effect.specs.Literals.{group_literals, literal_places}
 use Rattle.pddl_effect.proofs.Steps.{appending, negations}
 use Rattle.pddl_effect.proofs.effect.+effects.Goals as goal
 
-pub headed-returns-in-List-clause-effects : goal.headed-returns-in-List-clause-effects
-headed-returns-in-List-clause-effects t c = grind (arith, walking, appending)
+neither : (b : Bool) (x y : Beginning) → (x ≡ Equality → ⊥) → (y ≡ Equality → ⊥) → (if b then x else y) ≡ Equality → ⊥
+neither true x y h k = h
+neither false x y h k = k
 
-pub headed-returns-in-List-clause-increases : goal.headed-returns-in-List-clause-increases
-headed-returns-in-List-clause-increases t c = grind (arith, walking, appending)
+no_kind : (kind : WordKind) → by_kind kind ≡ Equality → ⊥
+no_kind Name e = cc e
+no_kind Dash e = cc e
+no_kind Variable e = cc e
+no_kind Other e = cc e
 
-pub headed-returns-in-List-clause-faults : goal.headed-returns-in-List-clause-faults
-unfolding first_of
-headed-returns-in-List-clause-faults t c = grind (arith, walking, noting)
+-- no effect begins with an equality
+no_equality : (t : List ℕ) → beginning InEffect t ≡ Equality → ⊥
+no_equality t =
+    neither _ Conjunction _ (λ e. cc e) (neither _ Increasing _ (λ e. cc e) (neither _ Negation _ (λ e. cc e) (neither _ Unread _ (λ e. cc e) (no_kind _))))
 
-pub headed-returns-in_ok-read_effects-in-Conjunction-clause-effects : goal.headed-returns-in_ok-read_effects-in-Conjunction-clause-effects
-headed-returns-in_ok-read_effects-in-Conjunction-clause-effects t c = grind (arith, walking, appending)
+-- so a list with one of these heads is no literal
+no_literal : (s : ℕ) (t : List ℕ) (b : Beginning) (parts : List ℕ) → b ≡ beginning InEffect t → (b ≡ Equality) ⊎ ((b ≡ GoalEquality) ⊎ (b ≡ NoName))
+    → group_literals s (beginning InEffect t) parts ≡ []
+no_literal s t b parts is (inl e) = absurd (no_equality t (sym is ∙ e))
+no_literal s t b parts is (inr (inl e)) = ap (λ (x : Beginning). group_literals s x parts) (sym is ∙ e)
+no_literal s t b parts is (inr (inr e)) = ap (λ (x : Beginning). group_literals s x parts) (sym is ∙ e)
 
-pub headed-returns-in_ok-read_effects-in-Conjunction-clause-increases : goal.headed-returns-in_ok-read_effects-in-Conjunction-clause-increases
-headed-returns-in_ok-read_effects-in-Conjunction-clause-increases t c = grind (arith, walking, appending)
+pub read_effect-returns-in_ok-add-in-Negation-clause-effects : goal.read_effect-returns-in_ok-add-in-Negation-clause-effects
+read_effect-returns-in_ok-add-in-Negation-clause-effects t c = grind (arith, walking, appending, negations)
 
-pub headed-returns-in_ok-read_effects-in-Conjunction-clause-faults : goal.headed-returns-in_ok-read_effects-in-Conjunction-clause-faults
-unfolding first_of
-headed-returns-in_ok-read_effects-in-Conjunction-clause-faults t c = grind (arith, walking, noting)
-
-pub headed-returns-in_ok-keep-in-Negation-clause-effects : goal.headed-returns-in_ok-keep-in-Negation-clause-effects
-headed-returns-in_ok-keep-in-Negation-clause-effects t c = grind (arith, walking, appending, negations)
-
-pub headed-returns-in_ok-keep-in-Negation-clause-increases : goal.headed-returns-in_ok-keep-in-Negation-clause-increases
-headed-returns-in_ok-keep-in-Negation-clause-increases t c = grind (arith, walking, appending, negations)
-
-pub headed-returns-in_ok-keep-in-Negation-clause-faults : goal.headed-returns-in_ok-keep-in-Negation-clause-faults
-unfolding first_of
-headed-returns-in_ok-keep-in-Negation-clause-faults t c = grind (arith, walking, noting)
-
-pub headed-returns-in_ok-keep_increase-in-Increasing-clause-effects : goal.headed-returns-in_ok-keep_increase-in-Increasing-clause-effects
-headed-returns-in_ok-keep_increase-in-Increasing-clause-effects t c = grind (arith, walking, appending)
-
-pub headed-returns-in_ok-keep_increase-in-Increasing-clause-increases : goal.headed-returns-in_ok-keep_increase-in-Increasing-clause-increases
-headed-returns-in_ok-keep_increase-in-Increasing-clause-increases t c = grind (arith, walking, appending)
-
-pub headed-returns-in_ok-keep_increase-in-Increasing-clause-faults : goal.headed-returns-in_ok-keep_increase-in-Increasing-clause-faults
-unfolding first_of
-headed-returns-in_ok-keep_increase-in-Increasing-clause-faults t c = grind (arith, walking, noting)
-
-pub headed-returns-in-Unread-clause-effects : goal.headed-returns-in-Unread-clause-effects
-headed-returns-in-Unread-clause-effects t c = grind (arith, walking, appending)
-
-pub headed-returns-in-Unread-clause-increases : goal.headed-returns-in-Unread-clause-increases
-headed-returns-in-Unread-clause-increases t c = grind (arith, walking, appending)
-
-pub headed-returns-in-Unread-clause-faults : goal.headed-returns-in-Unread-clause-faults
-unfolding first_of
-headed-returns-in-Unread-clause-faults t c = grind (arith, walking, noting)
-
-pub headed-returns-in_ok-keep-in-Atom-clause-effects : goal.headed-returns-in_ok-keep-in-Atom-clause-effects
-headed-returns-in_ok-keep-in-Atom-clause-effects t c = grind (arith, walking, appending)
-
-pub headed-returns-in_ok-keep-in-Atom-clause-increases : goal.headed-returns-in_ok-keep-in-Atom-clause-increases
-headed-returns-in_ok-keep-in-Atom-clause-increases t c = grind (arith, walking, appending)
-
-pub headed-returns-in_ok-keep-in-Atom-clause-faults : goal.headed-returns-in_ok-keep-in-Atom-clause-faults
-unfolding first_of
-headed-returns-in_ok-keep-in-Atom-clause-faults t c = grind (arith, walking, noting)
-
-pub headed-returns-in-Equality-clause-effects : goal.headed-returns-in-Equality-clause-effects
-headed-returns-in-Equality-clause-effects t c = grind (arith, walking, appending)
-
-pub headed-returns-in-Equality-clause-increases : goal.headed-returns-in-Equality-clause-increases
-headed-returns-in-Equality-clause-increases t c = grind (arith, walking, appending)
-
-pub headed-returns-in-Equality-clause-faults : goal.headed-returns-in-Equality-clause-faults
-unfolding first_of
-headed-returns-in-Equality-clause-faults t c = grind (arith, walking, noting)
-
-pub read_effect-returns-in-Word-clause-effects : goal.read_effect-returns-in-Word-clause-effects
-read_effect-returns-in-Word-clause-effects t c = grind (arith, walking, appending)
-
-pub read_effect-returns-in-Word-clause-increases : goal.read_effect-returns-in-Word-clause-increases
-read_effect-returns-in-Word-clause-increases t c = grind (arith, walking, appending)
-
-pub read_effect-returns-in-Word-clause-faults : goal.read_effect-returns-in-Word-clause-faults
-unfolding first_of
-read_effect-returns-in-Word-clause-faults t c = grind (arith, walking, noting)
-
-pub read_effect-returns-in-empty-clause-effects : goal.read_effect-returns-in-empty-clause-effects
-read_effect-returns-in-empty-clause-effects t c = grind (arith, walking, appending)
-
-pub read_effect-returns-in-empty-clause-increases : goal.read_effect-returns-in-empty-clause-increases
-read_effect-returns-in-empty-clause-increases t c = grind (arith, walking, appending)
-
-pub read_effect-returns-in-empty-clause-faults : goal.read_effect-returns-in-empty-clause-faults
-unfolding first_of
-read_effect-returns-in-empty-clause-faults t c = grind (arith, walking, noting)
-
-pub read_effect-returns-in_ok-headed-in-len1-up-clause-effects : goal.read_effect-returns-in_ok-headed-in-len1-up-clause-effects
-read_effect-returns-in_ok-headed-in-len1-up-clause-effects t c = grind (arith, walking, appending)
-
-pub read_effect-returns-in_ok-headed-in-len1-up-clause-increases : goal.read_effect-returns-in_ok-headed-in-len1-up-clause-increases
-read_effect-returns-in_ok-headed-in-len1-up-clause-increases t c = grind (arith, walking, appending)
-
-pub read_effect-returns-in_ok-headed-in-len1-up-clause-faults : goal.read_effect-returns-in_ok-headed-in-len1-up-clause-faults
-unfolding first_of
-read_effect-returns-in_ok-headed-in-len1-up-clause-faults t c = grind (arith, walking, noting)
-
-pub read_effects-loop-item-preserved : goal.read_effects-loop-item-preserved
-read_effects-loop-item-preserved t c = record { effects = grind (arith, walking); increases = grind (arith, walking); faults = grind (arith, walking) }
-
-pub read_effects-loop-item-init : goal.read_effects-loop-item-init
-read_effects-loop-item-init t c = record { effects = search rules; increases = search rules; faults = search rules }
-
-pub read_effects-returns-clause-effects : goal.read_effects-returns-clause-effects
-read_effects-returns-clause-effects t c = grind (arith, walking, appending)
-
-pub read_effects-returns-clause-increases : goal.read_effects-returns-clause-increases
-read_effects-returns-clause-increases t c = grind (arith, walking, appending)
-
-pub read_effects-returns-clause-faults : goal.read_effects-returns-clause-faults
-unfolding first_of
-read_effects-returns-clause-faults t c = grind (arith, walking)
+pub read_effect-returns-in-Equality-clause-literals : goal.read_effect-returns-in-Equality-clause-literals
+read_effect-returns-in-Equality-clause-literals t c =
+    let here = no_literal c.new-list.result.start c.list.inside.head.now c.beginning_of.result (literal_places InEffect (views c.new-list.result.rest)) c.beginning_of.ensures c.in-Equality.is in grind (arith, walking, appending, here)

@@ -1,6 +1,6 @@
 use Rattle.std.proofs.lemmas.Result.{err_from_is_err_and}
-use Rattle.optplan_solver.specs.Searches.{EndsAfter, IsRefusedAfter}
-use Rattle.optplan_solver.specs.declared.fault.SearchFault.TheVariants.{OutOfMemory}
+use Rattle.optplan_search.specs.Searches.{EndsAfter, IsRefusedAfter}
+use Rattle.optplan_search.specs.declared.fault.SearchFault.TheVariants.{OutOfMemory}
 use Rattle.optplan_pddl.proofs.StepNames.{names_there}
 use Rattle.optplan_pddl.proofs.Answering.{found_plans, answer_for, search_refused}
 use Rattle.optplan_pddl.proofs.preparing.Prepared.after_steps.Goals as goal

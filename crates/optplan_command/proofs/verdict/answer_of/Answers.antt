@@ -1,5 +1,0 @@
-use Rattle.optplan_command.proofs.verdict.answer_of.Goals as goal
-
-pub returns-in-Err-clause-refused : goal.returns-in-Err-clause-refused
-returns-in-Err-clause-refused c = λ domain problem spelled.
-    c.plan_fault.ensures domain problem c.args.plan.now c.args.task.now spelled (c.in-Err.ensures.fault)

@@ -1,6 +1,0 @@
-use Rattle.optplan_command.proofs.Reports.{refusal_of}
-use Rattle.optplan_command.proofs.verdict.verdict_of.Goals as goal
-
-pub returns-in-Err-clause-refused : goal.returns-in-Err-clause-refused
-returns-in-Err-clause-refused c =
-    refusal_of c.args.domain.now c.args.problem.now c.args.plan.now c.task_fault.result (c.task_fault.ensures c.in-Err.ensures.fault)

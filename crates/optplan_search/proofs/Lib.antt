@@ -1,0 +1,4 @@
+pub mod Schedules
+pub mod Ends
+pub mod WorldEnds
+pub mod OwnFindings

@@ -1,0 +1,4 @@
+pub mod SearchEnds
+pub mod Findings
+pub mod Schedules
+pub mod Searches

@@ -1,0 +1,4 @@
+pub mod Reports
+pub mod Validations
+pub mod Checks
+pub mod SasChecks

@@ -1,0 +1,18 @@
+-- A refusal of a planning task's texts is one of a validation.
+use Rattle.std.specs.Prelude.{ℕ, List}
+use Rattle.optplan_replies.specs.declared.fault.Fault.{Fault}
+use Rattle.optplan_replies.specs.declared.fault.Fault.TheVariants.{OutOfMemory, CannotRead, CannotWrite, Task, Plan, Sas, Cert, GroundLimit, TaskTooLarge, TotalTooLarge}
+use Rattle.optplan_replies.specs.Reports.{IsTaskReport}
+use Rattle.optplan_verdicts.specs.Answers.{IsRefusal}
+
+pub refusal_of : (domain problem plan : List ℕ) (e : Fault) → IsTaskReport domain problem e → IsRefusal domain problem plan e
+refusal_of domain problem plan OutOfMemory report = tt
+refusal_of domain problem plan (CannotRead file) report = elim report [ ]
+refusal_of domain problem plan (CannotWrite file) report = elim report [ ]
+refusal_of domain problem plan (Task e word) report = report
+refusal_of domain problem plan (Plan e) report = elim report [ ]
+refusal_of domain problem plan (Sas e) report = elim report [ ]
+refusal_of domain problem plan (Cert e) report = elim report [ ]
+refusal_of domain problem plan GroundLimit report = elim report [ ]
+refusal_of domain problem plan (TaskTooLarge table) report = elim report [ ]
+refusal_of domain problem plan TotalTooLarge report = elim report [ ]

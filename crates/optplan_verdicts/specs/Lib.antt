@@ -1,0 +1,4 @@
+pub mod Answers
+pub mod Validation
+pub mod Checking
+pub mod SasChecking
