@@ -1,5 +1,5 @@
 -- Values of options that are refused.
-use Rattle.std.proofs.Common.{◌≡◌, ℕ, List, Some, refl, IfOk, IfErr}
+use Rattle.std.proofs.Common.{ℕ, List, Some, refl, IfOk, IfErr}
 use Rattle.std.specs.Prelude.{Option, None, Result, Ok, Err}
 use Rattle.std.specs.Str.Parse.{digits_value}
 use Rattle.optplan_command.specs.Options.{IsNumberOf, IsNumberOr}

@@ -2,7 +2,6 @@
 -- its next operand, whatever else it is.
 use Rattle.std.proofs.Common.{◌≡◌, ◌∙◌, ℕ, Bool, true, false, List, [], ◌∷◌, Some, None, refl, ap, ap₂, cond, true≢false, sym}
 use Rattle.std.specs.Prelude.{Option, fold, is_some, option_and_then, ◌==◌}
-use Rattle.std.specs.Option.{option_map_or}
 use Rattle.std.specs.Str.{bytes_eq}
 use Rattle.clap.specs.Lexer.{long_of, long_of_rest, short_of, short_of_rest, strip_byte}
 use Rattle.clap.specs.Walk.{Held, Rule, Step, Text, Waiting, Walk, idle, option, positional, value}

@@ -11,7 +11,7 @@ use Rattle.pddl_syntax.specs.declared.sections.Section.{Section}
 use Rattle.pddl_syntax.specs.Sections.{part_of}
 use Rattle.pddl_syntax.specs.Parameters.{parameter_names, parameter_types}
 use Rattle.pddl_action.specs.Domains.{Declarations}
-use Rattle.pddl_action.specs.declared.keyword.Keyword.TheVariants.{Parameters, Precondition}
+use Rattle.pddl_action.specs.declared.keyword.Keyword.TheVariants.{Precondition}
 use Rattle.pddl_action.specs.declared.keyword.Keyword.TheVariants as keyword
 use Rattle.pddl_terms.specs.Terms.{Scope}
 use Rattle.pddl_effect.specs.Conditions.{conditions}

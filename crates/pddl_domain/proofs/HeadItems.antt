@@ -1,17 +1,16 @@
 -- Steps through the lists of predicates and of functions.
-use Rattle.std.proofs.Common.{◌≡◌, ◌≤◌, ◌+◌, arith, ℕ, Bool, true, false, List, [], ◌∷◌, ◌++◌, refl, sym, ap, ◌∙◌, if◌then◌else◌}
-use Rattle.std.specs.Prelude.{Option, Result, Ok, Err, OnOk, nat_le}
+use Rattle.std.proofs.Common.{◌≡◌, ◌≤◌, ◌+◌, arith, ℕ, Bool, true, false, List, [], ◌∷◌, ◌++◌, refl, ap, if◌then◌else◌}
+use Rattle.std.specs.Prelude.{nat_le}
 use Rattle.sexp.specs.declared.tree.Tree.{Tree}
 use Rattle.sexp.specs.Forms.{Forms, none, word, group, before}
 use Rattle.pddl_syntax.specs.declared.fault.Fault.{Fault}
 use Rattle.pddl_syntax.specs.declared.fault.FaultKind.TheVariants.{Shape, Limit}
-use Rattle.pddl_syntax.specs.declared.fault.LimitedTable.{LimitedTable}
 use Rattle.pddl_syntax.specs.declared.fault.LimitedTable.TheVariants.{Predicates, Functions}
-use Rattle.pddl_syntax.specs.Faults.{fault, faults_if, first_of}
+use Rattle.pddl_syntax.specs.Faults.{fault, faults_if}
 use Rattle.pddl_syntax.specs.Words.{word_kind}
 use Rattle.pddl_syntax.specs.Heads.{Heads}
-use Rattle.pddl_syntax.proofs.Trees.{noted, at_tree}
-use Rattle.pddl_domain.specs.DeclaredHeads.{with_item, with_list, past_limit, item_faults, list_faults, count_after, has_equals, empty_after, predicate_heads, predicates_faults, function_heads, heads_behind, functions_faults}
+use Rattle.pddl_syntax.proofs.Trees.{at_tree}
+use Rattle.pddl_domain.specs.DeclaredHeads.{with_item, with_list, item_faults, list_faults, count_after, has_equals, empty_after, predicate_heads, predicates_faults, function_heads, heads_behind, functions_faults}
 
 if_append : (b : Bool) (f : Fault) (fs gs : List Fault) → faults_if b f (fs ++ gs) ≡ faults_if b f fs ++ gs
 if_append true f fs gs = refl

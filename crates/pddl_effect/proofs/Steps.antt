@@ -1,5 +1,5 @@
 -- Definitions by their first expression, at a tree.
-use Rattle.std.proofs.Common.{◌≡◌, ℕ, Bool, true, false, if◌then◌else◌, List, [], ◌∷◌, ◌++◌, map, refl, append_assoc}
+use Rattle.std.proofs.Common.{◌≡◌, ℕ, Bool, true, false, if◌then◌else◌, List, [], ◌++◌, map, refl, append_assoc}
 use Rattle.std.proofs.lemmas.List.{map-append, append-nil}
 use Rattle.std.specs.Prelude.{Option, Some, None, option_to_list}
 use Rattle.std.specs.List.{filter_map}
@@ -20,7 +20,7 @@ use Rattle.pddl_terms.specs.declared.beginning.Setting.TheVariants.{InEffect}
 use Rattle.pddl_terms.specs.Terms.{Scope, lifted, with_term, first_term_faults}
 use Rattle.pddl_effect.specs.Conditions.{equality, equality_of, negated_condition, negated_inside, negated_conditions, two_terms_faults, second_term_faults, first_negated_faults, negated_faults}
 use Rattle.pddl_terms.specs.Beginnings.{beginning, by_kind}
-use Rattle.pddl_effect.specs.Effects.{amount_of, first_amount_faults, amount_faults, increased_faults, increase_faults, effect_of, negated_atom, negated_effect, negated_effects}
+use Rattle.pddl_effect.specs.Effects.{first_amount_faults, amount_faults, increased_faults, increase_faults, effect_of, negated_atom, negated_effect, negated_effects}
 use Rattle.pddl_effect.specs.Effects as effect
 use Rattle.pddl_terms.proofs.TermSteps.{terms_step, terms_faults_step}
 use Rattle.sexp.proofs.Walking.{at_tree}

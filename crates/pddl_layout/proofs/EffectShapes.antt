@@ -29,7 +29,7 @@ use Rattle.pddl_terms.specs.Terms.{Scope, is_total_cost}
 use Rattle.pddl_effect.specs.Conditions as condition
 use Rattle.pddl_effect.specs.Conditions.{conditions_in, conditions_faults_in, second_term_faults, two_terms_faults, negated_group_faults, first_negated_faults, negated_faults}
 use Rattle.pddl_effect.specs.Effects as effect
-use Rattle.pddl_effect.specs.Effects.{effect_of, effects, function_value, amount_of_word, amount_inside, amount_of, increase_of, increases, function_faults, amount_word_faults, amount_inside_faults, first_amount_faults, amount_faults, increased_word_faults, has_terms, increased_inside_faults, increased_faults, increase_faults, effects_faults}
+use Rattle.pddl_effect.specs.Effects.{effect_of, effects, function_value, amount_of, increase_of, increases, function_faults, amount_word_faults, first_amount_faults, amount_faults, increased_word_faults, has_terms, increased_inside_faults, increased_faults, increase_faults, effects_faults}
 use Rattle.pddl_effect.specs.Literals.{group_literals, literal_places, group_increases, increase_places}
 use Rattle.pddl_layout.specs.Shapes.{erased}
 use Rattle.pddl_layout.proofs.Alike.{Alike, faulty, clear, both, chosen, tested, tested_both}

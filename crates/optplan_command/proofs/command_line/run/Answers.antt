@@ -1,4 +1,4 @@
-use Rattle.std.proofs.Common.{inr, refl, sym, ⊎_elim}
+use Rattle.std.proofs.Common.{inr, refl, ⊎_elim}
 use Rattle.clap.specs.Words.{kind_of}
 use Rattle.optplan_replies.proofs.Unput.{unput_same, unput_then}
 use Rattle.optplan_command.proofs.PlainRequests.{asked_validation, asked_check, asked_sas_check, asked_judgement, asked_translation, asked_migration, out_of_memory}

@@ -3,7 +3,6 @@ use Rattle.std.specs.Prelude.{Option, option_to_list}
 use Rattle.std.specs.String.{string_bytes}
 use Rattle.sexp.specs.Forms.{views}
 use Rattle.pddl_syntax.specs.Sections as spec
-use Rattle.pddl_syntax.specs.Sections.{part_of}
 use Rattle.pddl_syntax.proofs.Trees.{word_is, list_is}
 use Rattle.pddl_syntax.proofs.HeadSteps.{one_here, one_not_here}
 use Rattle.pddl_syntax.proofs.sections.as_section.Goals as goal

@@ -2,7 +2,6 @@ use Rattle.std.proofs.Common.{[], ap, ◌∙◌}
 use Rattle.sexp.specs.Forms.{Forms, views}
 use Rattle.pddl_syntax.specs.Faults.{first_of}
 use Rattle.pddl_syntax.specs.Sections as spec
-use Rattle.pddl_syntax.specs.Sections.{part_of}
 use Rattle.pddl_syntax.proofs.HeadSteps.{noted_3}
 use Rattle.pddl_syntax.proofs.sections.blame_behind_define.Goals as goal
 

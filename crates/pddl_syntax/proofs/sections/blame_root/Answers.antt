@@ -2,7 +2,6 @@ use Rattle.std.proofs.Common.{ap, ◌∙◌, codes}
 use Rattle.sexp.specs.Forms.{Forms}
 use Rattle.pddl_syntax.specs.Faults.{first_of}
 use Rattle.pddl_syntax.specs.Sections as spec
-use Rattle.pddl_syntax.specs.Sections.{part_of}
 use Rattle.pddl_syntax.proofs.Trees.{on_ok}
 use Rattle.pddl_syntax.proofs.HeadSteps.{tested_first, define_step}
 use Rattle.pddl_syntax.proofs.sections.blame_root.Goals as goal

@@ -4,7 +4,6 @@ use Rattle.sexp.specs.Forms.{Forms}
 use Rattle.pddl_syntax.specs.declared.fault.FaultKind.TheVariants.{Shape}
 use Rattle.pddl_syntax.specs.Faults.{fault, first_of}
 use Rattle.pddl_syntax.specs.Sections as spec
-use Rattle.pddl_syntax.specs.Sections.{part_of}
 use Rattle.pddl_syntax.proofs.Trees.{word_is, list_is, first_of_nil}
 use Rattle.pddl_syntax.proofs.HeadSteps.{noted_one}
 use Rattle.pddl_syntax.proofs.sections.blame_second.Goals as goal

@@ -4,7 +4,6 @@ use Rattle.sexp.specs.Forms.{Forms, group, views}
 use Rattle.pddl_syntax.specs.declared.fault.FaultKind.TheVariants.{Shape}
 use Rattle.pddl_syntax.specs.Faults.{fault, first_of}
 use Rattle.pddl_syntax.specs.Sections as spec
-use Rattle.pddl_syntax.specs.Sections.{part_of}
 use Rattle.pddl_syntax.proofs.Trees.{word_is, list_is}
 use Rattle.pddl_syntax.proofs.HeadSteps.{views_first, views_none, noted_one}
 use Rattle.pddl_syntax.proofs.sections.blame_section.Goals as goal

@@ -3,7 +3,6 @@ use Rattle.sexp.specs.Forms.{Forms, group}
 use Rattle.pddl_syntax.specs.declared.fault.FaultKind.TheVariants.{Shape}
 use Rattle.pddl_syntax.specs.Faults.{fault, first_of}
 use Rattle.pddl_syntax.specs.Sections as spec
-use Rattle.pddl_syntax.specs.Sections.{part_of}
 use Rattle.pddl_syntax.proofs.Trees.{word_is, list_is, noted}
 use Rattle.pddl_syntax.proofs.HeadSteps.{noted_one, on_ok_2}
 use Rattle.pddl_syntax.proofs.sections.blame_section_head.Goals as goal

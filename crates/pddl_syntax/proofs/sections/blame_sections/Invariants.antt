@@ -2,7 +2,6 @@ use Rattle.std.proofs.Common.{◌≡◌, [], drop}
 use Rattle.sexp.specs.Forms.{views}
 use Rattle.pddl_syntax.specs.Faults.{first_of}
 use Rattle.pddl_syntax.specs.Sections as spec
-use Rattle.pddl_syntax.specs.Sections.{part_of}
 use Rattle.pddl_syntax.proofs.sections.blame_sections.Given as goal
 
 abbrev pub invariant-loop-tree : goal.invariant-loop-tree

@@ -3,7 +3,6 @@ use Rattle.sexp.specs.Forms.{Forms, views}
 use Rattle.pddl_syntax.specs.declared.fault.FaultKind.TheVariants.{Shape}
 use Rattle.pddl_syntax.specs.Faults.{fault, first_of}
 use Rattle.pddl_syntax.specs.Sections as spec
-use Rattle.pddl_syntax.specs.Sections.{part_of}
 use Rattle.pddl_syntax.proofs.Trees.{first_of_nil}
 use Rattle.pddl_syntax.proofs.HeadSteps.{views_first, views_none, noted_one}
 use Rattle.pddl_syntax.proofs.sections.blame_title_part.Goals as goal

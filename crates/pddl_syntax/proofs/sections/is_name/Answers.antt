@@ -1,6 +1,5 @@
 use Rattle.std.proofs.Common.{◌≡◌, rules, refl, sym, ap, ◌∙◌}
 use Rattle.pddl_syntax.specs.Sections as spec
-use Rattle.pddl_syntax.specs.Sections.{part_of}
 use Rattle.pddl_syntax.proofs.Trees.{word_is, list_is}
 use Rattle.pddl_syntax.proofs.sections.is_name.Goals as goal
 use Rattle.pddl_syntax.specs.Words.{is_name}

@@ -2,7 +2,6 @@ use Rattle.std.proofs.Common.{refl, sym, ap, ◌∙◌}
 use Rattle.std.specs.String.{string_bytes}
 use Rattle.sexp.specs.Forms.{none}
 use Rattle.pddl_syntax.specs.Sections as spec
-use Rattle.pddl_syntax.specs.Sections.{part_of}
 use Rattle.pddl_syntax.proofs.Trees.{word_is, list_is}
 use Rattle.pddl_syntax.proofs.sections.sections_of.Goals as goal
 
