@@ -1,4 +1,5 @@
 pub mod Schedules
 pub mod Ends
+pub mod Settled
 pub mod WorldEnds
 pub mod OwnFindings

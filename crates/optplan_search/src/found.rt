@@ -7,7 +7,7 @@ ghost use Rattle.fdr.specs.Tasks.{plan_cost};
 ghost use Rattle.extract.specs.Bounds.{least_best, lower_bound};
 ghost use Rattle.extract.specs.Ends.{IsBestGoal};
 ghost use Rattle.optplan_search.specs.SearchEnds.{single};
-ghost use Rattle.optplan_search.specs.Findings.{plain, IsPlanAt, IsBestSoFar, IsCertifiedBy, IsSettledEnd, IsFound, IsSolution, IsSoFar};
+ghost use Rattle.optplan_search.specs.Findings.{plain, IsPlanAt, IsBestSoFar, IsCertifiedBy, IsSettledEnd, IsFound, IsSoFar};
 
 use crate::answer::{Answer, SoFar, Solution};
 use cert::cert_of;
@@ -96,22 +96,21 @@ fn certificate_of<'a, R: Threads + Sync, S: Spread + Drop, F: StateForm + Drop>(
     }
 }
 
-/// Returns the solution of a search that is settled at a finite cost.
-fn solution_of<'a, R: Threads + Sync, S: Spread + Drop, F: StateForm + Drop>(
+/// Returns the finding of a search that is settled: a cheapest plan, or that there is none.
+pub fn found_when_settled<'a, R: Threads + Sync, S: Spread + Drop, F: StateForm + Drop>(
     rt: &R,
     alloc: Global,
     joined: &Joined<'a, S, F>,
     wanted: Option<CertificateKind>,
-) -> Result<Solution<FoundPlan>, AllocError>
-    requires { (cost : ℕ) × IsSettledEnd S.owner joined.now (Finite cost) }
-    ensures solution { IfOk result (IsSolution joined.now.space.task (option_map plain wanted)) }
-    ensures settled { IfOk result (λ s. IsSettledEnd S.owner joined.now (Finite s.found.cost)) }
+) -> Result<Found, AllocError>
+    requires { (bound : Distance) × IsSettledEnd S.owner joined.now bound }
+    ensures { IfOk result (IsFound S.owner (single joined.now) (option_map plain wanted)) }
 {
     joined.recall();
     let certificate = certificate_of(rt, alloc, joined, wanted)?;
     match best_plan(alloc, joined)? {
-        Some(found) => Ok(Solution { found, certificate }),
-        None => unreachable!(),
+        Some(found) => Ok(Answer::Solved(Solution { found, certificate })),
+        None => Ok(Answer::Unsolvable(certificate)),
     }
 }
 
@@ -154,9 +153,6 @@ pub fn found_by<'a, R: Threads + Sync, S: Spread + Drop, F: StateForm + Drop>(
     joined.recall();
     match joined.settled(alloc)? {
         None => Ok(Answer::Limit(so_far_of(rt, alloc, joined, wanted)?)),
-        Some(bound) => match bound.get() {
-            Some(_) => Ok(Answer::Solved(solution_of(rt, alloc, joined, wanted)?)),
-            None => Ok(Answer::Unsolvable(certificate_of(rt, alloc, joined, wanted)?)),
-        },
+        Some(_) => found_when_settled(rt, alloc, joined, wanted),
     }
 }

@@ -13,7 +13,7 @@ mod space;
 
 pub use answer::{Answer, SoFar, Solution};
 pub use fault::SearchFault;
-pub use found::{Found, FoundPlan, found_by, so_far_of};
+pub use found::{Found, FoundPlan, found_by, found_when_settled, so_far_of};
 pub use observer::{Observer, Reached, STEPS_BETWEEN_REPORTS, Unobserved};
 pub use schedule::simulated;
 pub use searching::{found_after, found_by_seed};

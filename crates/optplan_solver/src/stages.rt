@@ -21,7 +21,9 @@ use engine::{Cause, EndingGate, EngineFault, Gate, Searched, search};
 use extract::Joined;
 use fdr::FdrTask;
 use optplan_options::{Options, STAGES, Tables};
-use optplan_search::{Found, FoundPlan, SearchFault, SoFar, found_by, so_far_of, space_for};
+use optplan_search::{
+    Answer, Found, FoundPlan, SearchFault, SoFar, found_when_settled, so_far_of, space_for,
+};
 use owner::Space;
 use packed::{StateForm, in_smallest_form};
 use packed_spread::Zobrist;
@@ -76,17 +78,18 @@ fn known_at<'a, R: Threads + Sync, F: StateForm + Drop, G: Gate>(
     Ok(Some(so_far_of(rt, alloc, joined, copied_wanted(alloc, wanted)?)?))
 }
 
-/// Returns what a search has found, with a certificate if one is wanted.
-fn found_at<'a, R: Threads + Sync, F: StateForm + Drop>(
+/// Returns what a search has found whose owners are settled, with a certificate if one is wanted.
+fn settled_at<'a, R: Threads + Sync, F: StateForm + Drop>(
     rt: &R,
     alloc: Global,
     joined: &Joined<'a, Zobrist<'a>, F>,
     wanted: &Option<CertificateKind>,
 ) -> Result<StageFound, AllocError>
+    requires { (bound : Distance) × IsSettledEnd zobrist_owner joined.now bound }
     ensures { IfOk result (IsFoundAt joined.now (option_map plain wanted.now)) }
 {
     joined.recall();
-    let found = found_by(rt, alloc, joined, copied_wanted(alloc, wanted)?)?;
+    let found = found_when_settled(rt, alloc, joined, copied_wanted(alloc, wanted)?)?;
     Ok(StageFound::Answered(found))
 }
 
@@ -104,8 +107,12 @@ fn stopped_at<'a, R: Threads + Sync, F: StateForm + Drop, G: Gate>(
     requires { (at : Distance) → IsSettledEnd zobrist_owner joined.now at → ⊥ }
     ensures { IfOk result (IsFoundWhenStopped options.now (G.may_stop gate.now) (option_map plain wanted.now) joined.now cause) }
 {
+    joined.recall();
     match cause {
-        Cause::Limit | Cause::Gate => found_at(rt, alloc, joined, wanted),
+        Cause::Limit | Cause::Gate => {
+            let known = so_far_of(rt, alloc, joined, copied_wanted(alloc, wanted)?)?;
+            Ok(StageFound::Answered(Answer::Limit(known)))
+        }
         Cause::Stage => {
             let known = known_at(rt, alloc, joined, options, wanted, gate)?;
             let orders = orders_of(alloc, joined.space().columns())?;
@@ -135,7 +142,7 @@ fn by_threads<
 {
     let (workers, capacity) = (options.workers(), options.ring());
     match search::<R, Zobrist<'a>, F, G>(rt, alloc, space, workers, capacity, gate) {
-        Ok(Searched::Settled(joined)) => Ok(found_at(rt, alloc, &joined, wanted)?),
+        Ok(Searched::Settled(joined)) => Ok(settled_at(rt, alloc, &joined, wanted)?),
         Ok(Searched::Stopped(joined, cause)) => {
             Ok(stopped_at(rt, alloc, &joined, cause, options, wanted, gate)?)
         }

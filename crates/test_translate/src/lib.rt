@@ -3,6 +3,8 @@
 #![tactic(auto)]
 
 #[cfg(test)]
+mod actions_of_operators;
+#[cfg(test)]
 mod assembled_parts;
 #[cfg(test)]
 mod chosen_variables;
