@@ -88,7 +88,8 @@ fn show<D: Device>(alloc: Global, device: &mut D, error: &Error) -> Status
 /// The meaning of the arguments, with operands and options in any order, is that of the definitions of `clap`. For a
 /// command that works on files alone, none of which begins with `-`, the contract also states it without them.
 pub fn run<D: Device, R: Runtime>(words: &[String], device: &mut D, rt: &R) -> Status
-    ensures validates { (h : List Event) (domain problem plan : List ℕ) → D.history device.old ≡ Some h → AskForValidation (texts_of words.now) domain problem plan →
+    ensures validates { (h : List Event) (domain problem plan : List ℕ) → D.history device.old ≡ Some h →
+        AskForValidation (texts_of words.now) domain problem plan →
         D.failure_count device.new ≡ D.failure_count device.old → result ≢ Status.OutOfMemory →
         (new : List Event) × (D.history device.new ≡ Some new) × Validates h new domain problem plan result }
     ensures checks_sas { (h : List Event) (sas cert : List ℕ) → D.history device.old ≡ Some h → AskForSasCheck (texts_of words.now) sas cert →

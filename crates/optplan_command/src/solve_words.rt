@@ -132,11 +132,13 @@ pub(crate) fn solve_by_words<D: Device, R: Runtime>(
     command: SolvingCommand,
     words: &ArgMatches<'_>,
 ) -> Result<Status, Error>
-    ensures done { IfOk result (λ status. (h : List Event) → D.history device.old ≡ Some h → D.failure_count device.new ≡ D.failure_count device.old → status ≢ Status.OutOfMemory →
+    ensures done { IfOk result (λ status. (h : List Event) → D.history device.old ≡ Some h → D.failure_count device.new ≡ D.failure_count device.old →
+        status ≢ Status.OutOfMemory →
         (new : List Event) × (D.history device.new ≡ Some new) × Solved command (λ name. first_value (found_of words.now) name) h new status) }
     ensures counted { IfOk result (λ status. status ≡ Status.DeviceFailed → D.failure_count device.old + 1 ≤ D.failure_count device.new) }
     ensures same { OnErr result (D.failure_count device.new ≡ D.failure_count device.old) }
-    ensures refused { IfErr result (λ e. (kind_of e ≡ OutOfMemory) ⊎ ((kind_of e ≡ ValueValidation) × HasRefusedValue (λ name. first_value (found_of words.now) name))) }
+    ensures refused { IfErr result (λ e. (kind_of e ≡ OutOfMemory) ⊎ ((kind_of e ≡ ValueValidation) ×
+        HasRefusedValue (λ name. first_value (found_of words.now) name))) }
     ensures kept { OnErr result (D.history device.new ≡ D.history device.old) }
     ensures unput { IfOk result (λ status. status ≡ Status.OutOfMemory → IsUnput (D.history device.old) (D.history device.new)) }
 {

@@ -141,7 +141,8 @@ pub fn run_solve_sas<D: Device, R: Runtime>(
     settings: &Settings<'_>,
 ) -> Status
     ensures done { (h : List Event) → D.history device.old ≡ Some h → D.failure_count device.new ≡ D.failure_count device.old → result ≢ Status.OutOfMemory →
-        (new : List Event) × (D.history device.new ≡ Some new) × SolvesSas h new sas.now settings.now.options settings.now.schedule (files_of settings.now) result }
+        (new : List Event) × (D.history device.new ≡ Some new) ×
+        SolvesSas h new sas.now settings.now.options settings.now.schedule (files_of settings.now) result }
     ensures device_failed { result ≡ Status.DeviceFailed → D.failure_count device.old + 1 ≤ D.failure_count device.new }
     ensures unput { result ≡ Status.OutOfMemory → IsUnput (D.history device.old) (D.history device.new) }
 {

@@ -149,7 +149,8 @@ fn found_for_task(
     found: Found,
 ) -> Result<Found, AllocError>
     requires reduction { IsReductionOf task.now reduction.now }
-    requires found { (wanted : Option KindOf) × ((es : EndsOf spread.Zobrist) × IsFoundFor reduction.now.task zobrist_owner es (option_map plain wanted) found) }
+    requires found { (wanted : Option KindOf) × ((es : EndsOf spread.Zobrist) ×
+        IsFoundFor reduction.now.task zobrist_owner es (option_map plain wanted) found) }
     ensures { (wanted : Option KindOf) (es : EndsOf spread.Zobrist) → IsFoundFor reduction.now.task zobrist_owner es (option_map plain wanted) found →
         IfOk result (IsFoundFor task.now zobrist_owner es (wants (stated_classes reduction.now.classes) (option_map kind_of wanted))) }
 {

@@ -31,7 +31,8 @@ fn verdict_status(verdict: &Verdict) -> Status
 
 /// Converts the plan's fault into the program's.
 fn plan_fault(fault: PlanFault) -> Fault
-    ensures { (domain problem plan : List ℕ) (task : PlanningTask) → SpellTask domain problem task → IsPlanFault plan fault → IsRefusal domain problem plan result }
+    ensures { (domain problem plan : List ℕ) (task : PlanningTask) → SpellTask domain problem task → IsPlanFault plan fault →
+        IsRefusal domain problem plan result }
 {
     match fault {
         PlanFault::OutOfMemory => Fault::OutOfMemory,
@@ -43,7 +44,8 @@ fn plan_fault(fault: PlanFault) -> Fault
 fn line_of(alloc: Global, task: &Task, plan: &Plan) -> Result<(String, Status), AllocError>
     requires small { IsTrue (has_small_costs task.now) }
     requires costs { CostsAtMost task.now max_cost }
-    ensures verdict { IfOk result (λ r. (v : Verdict) × IsVerdict task.now plan.now v × (string_bytes r.0 ≡ verdict_line_of task.now v) × (r.1 ≡ verdict_status v)) }
+    ensures verdict { IfOk result (λ r. (v : Verdict) × IsVerdict task.now plan.now v × (string_bytes r.0 ≡ verdict_line_of task.now v) ×
+        (r.1 ≡ verdict_status v)) }
     ensures judged { IfOk result (λ r. IsOfVerdict r.1) }
 {
     let verdict = validate(alloc, task, plan)?;
@@ -57,7 +59,8 @@ fn line_of(alloc: Global, task: &Task, plan: &Plan) -> Result<(String, Status), 
 fn answer_of(alloc: Global, task: &Task, plan: &[u8]) -> Result<(String, Status), Fault>
     requires small { IsTrue (has_small_costs task.now) }
     requires costs { CostsAtMost task.now max_cost }
-    ensures answer { (domain problem : List ℕ) → SpellTask domain problem task.now → IfOk result (λ r. IsAnswer domain problem plan.now (string_bytes r.0) r.1) }
+    ensures answer { (domain problem : List ℕ) → SpellTask domain problem task.now →
+        IfOk result (λ r. IsAnswer domain problem plan.now (string_bytes r.0) r.1) }
     ensures judged { IfOk result (λ r. IsOfVerdict r.1) }
     ensures refused { (domain problem : List ℕ) → SpellTask domain problem task.now → IfErr result (λ e. IsRefusal domain problem plan.now e) }
 {
