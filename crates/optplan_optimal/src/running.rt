@@ -148,7 +148,8 @@ pub fn run_optimality<D: Device, R: AllocGlobal + Threads + Sync>(
         device,
         &command,
         |texts: Texts| -> Result<(String, Status), Fault>
-            ensures { IsAnswered (IsOptimalityReply texts.domain.items texts.problem.items (plain texts.plan.items) texts.cert.items) (IsOptimalityReport texts.domain.items texts.problem.items (plain texts.plan.items) texts.cert.items) result }
+            ensures { IsAnswered
+                (IsOptimalityReply texts.domain.items texts.problem.items (plain texts.plan.items) texts.cert.items) (IsOptimalityReport texts.domain.items texts.problem.items (plain texts.plan.items) texts.cert.items) result }
         { answer_to(rt, texts) },
     )
 }

@@ -119,7 +119,8 @@ pub fn run_planning_check<D: Device, R: AllocGlobal + Threads + Sync>(
         device,
         &command,
         |texts: Texts| -> Result<(String, Status), Fault>
-            ensures { IsAnswered (IsCheckAnswer texts.domain.items texts.problem.items texts.judged.items) (IsCheckRefusal texts.domain.items texts.problem.items texts.judged.items) result }
+            ensures { IsAnswered (IsCheckAnswer texts.domain.items texts.problem.items texts.judged.items)
+                (IsCheckRefusal texts.domain.items texts.problem.items texts.judged.items) result }
         { check_of(rt, &texts.domain, &texts.problem, &texts.judged) },
     )
 }

@@ -69,7 +69,8 @@ pub fn run_validation<D: Device, R: AllocGlobal + Threads + Sync>(
         device,
         &command,
         |texts: Texts| -> Result<(String, Status), Fault>
-            ensures { IsAnswered (IsAnswer texts.domain.items texts.problem.items texts.judged.items) (IsRefusal texts.domain.items texts.problem.items texts.judged.items) result }
+            ensures { IsAnswered (IsAnswer texts.domain.items texts.problem.items texts.judged.items)
+                (IsRefusal texts.domain.items texts.problem.items texts.judged.items) result }
         { verdict_of(rt.alloc(), &texts.domain, &texts.problem, &texts.judged) },
     )
 }
