@@ -75,7 +75,8 @@ fn answer_to<R: AllocGlobal + Threads + Sync>(
     rt: &R,
     texts: Texts,
 ) -> Result<(String, Status), Fault>
-    ensures answer { IfOk result (λ r. IsOptimalityReply texts.domain.items texts.problem.items (plain texts.plan.items) texts.cert.items (string_bytes r.0) r.1) }
+    ensures answer { IfOk result (λ r.
+        IsOptimalityReply texts.domain.items texts.problem.items (plain texts.plan.items) texts.cert.items (string_bytes r.0) r.1) }
     ensures judged { IfOk result (λ r. r.1 ≢ Status.DeviceFailed) }
     ensures answered { IfOk result (λ r. r.1 ≢ Status.OutOfMemory) }
     ensures refused { IfErr result (IsOptimalityReport texts.domain.items texts.problem.items (plain texts.plan.items) texts.cert.items) }
@@ -149,7 +150,8 @@ pub fn run_optimality<D: Device, R: AllocGlobal + Threads + Sync>(
         &command,
         |texts: Texts| -> Result<(String, Status), Fault>
             ensures { IsAnswered
-                (IsOptimalityReply texts.domain.items texts.problem.items (plain texts.plan.items) texts.cert.items) (IsOptimalityReport texts.domain.items texts.problem.items (plain texts.plan.items) texts.cert.items) result }
+                (IsOptimalityReply texts.domain.items texts.problem.items (plain texts.plan.items) texts.cert.items)
+                (IsOptimalityReport texts.domain.items texts.problem.items (plain texts.plan.items) texts.cert.items) result }
         { answer_to(rt, texts) },
     )
 }

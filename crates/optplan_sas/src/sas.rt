@@ -156,7 +156,8 @@ pub fn solve_task<R: Threads + Wait + Clock + Sync + AllocGlobal, G: EndingGate 
     options: &Options,
     gate: &G,
 ) -> Result<SasAnswer, SearchFault>
-    ensures answer { (sas : List ℕ) → SpellsTask sas task.now → IfOk result (IsSasAnswer options.now.certificate sas (EndsByThreads options.now (G.may_stop gate.now))) }
+    ensures answer { (sas : List ℕ) → SpellsTask sas task.now →
+        IfOk result (IsSasAnswer options.now.certificate sas (EndsByThreads options.now (G.may_stop gate.now))) }
     ensures refused { IfErr result (IsRefusedByThreads options.now (G.may_stop gate.now) task.now) }
 {
     let alloc = rt.alloc();
