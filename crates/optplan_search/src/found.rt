@@ -103,7 +103,7 @@ pub fn found_when_settled<'a, R: Threads + Sync, S: Spread + Drop, F: StateForm 
     joined: &Joined<'a, S, F>,
     wanted: Option<CertificateKind>,
 ) -> Result<Found, AllocError>
-    requires { (bound : Distance) × IsSettledEnd S.owner joined.now bound }
+    requires settled { (bound : Distance) × IsSettledEnd S.owner joined.now bound }
     ensures { IfOk result (IsFound S.owner (single joined.now) (option_map plain wanted)) }
 {
     joined.recall();

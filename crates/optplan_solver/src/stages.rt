@@ -85,7 +85,7 @@ fn settled_at<'a, R: Threads + Sync, F: StateForm + Drop>(
     joined: &Joined<'a, Zobrist<'a>, F>,
     wanted: &Option<CertificateKind>,
 ) -> Result<StageFound, AllocError>
-    requires { (bound : Distance) × IsSettledEnd zobrist_owner joined.now bound }
+    requires settled { (bound : Distance) × IsSettledEnd zobrist_owner joined.now bound }
     ensures { IfOk result (IsFoundAt joined.now (option_map plain wanted.now)) }
 {
     joined.recall();
