@@ -10,7 +10,6 @@ use Rattle.checker_fdr.specs.Answers as checked
 use Rattle.checker_fdr.specs.declared.verdict.Verdict.{Verdict}
 use Rattle.checker_fdr.specs.declared.verdict.Verdict.TheVariants.{Accepted, Rejected}
 use Rattle.checker_fdr.proofs.OneAnswer as checker_laws
-use Rattle.optplan_plan_texts.specs.Plain.{plain}
 use Rattle.optplan_optimal_sas.specs.declared.flaw.PlanFlaw.{PlanFlaw}
 use Rattle.optplan_optimal_sas.specs.declared.verdict.SasOptimalityVerdict.{SasOptimalityVerdict}
 use Rattle.optplan_optimal_sas.specs.declared.verdict.SasOptimalityVerdict.TheVariants.{Optimal, Gap, CertificateRejected, PlanRejected, Unsolvable, AtLeast, ClaimRejected}
@@ -39,15 +38,15 @@ module _ (sas plan : List ℕ) (room : length sas < 2 ^ 64 - 1) where
   one_flaw a b p q = let same : Err a ≡ Err b = same_verdict p.task q.task (Err a) (Err b) p.task_spelled q.task_spelled p.not_valid q.not_valid in cc same
 
 -- the claim has no steps
-claim_without_feed : (steps : List (List ℕ)) → steps_in (plain (codes "unsolvable")) ≡ Ok steps → ⊥
+claim_without_feed : (steps : List (List ℕ)) → steps_in (codes "unsolvable") ≡ Ok steps → ⊥
 claim_without_feed steps h = absurd cc
 
-claim_with_feed : (steps : List (List ℕ)) → steps_in (plain (codes "unsolvable\n")) ≡ Ok steps → ⊥
+claim_with_feed : (steps : List (List ℕ)) → steps_in (codes "unsolvable\n") ≡ Ok steps → ⊥
 claim_with_feed steps h = absurd cc
 
 pub claim_has_no_steps : {A : Type 0} (plan : List ℕ) (task : FiniteDomainTask) (v : Result ℕ PlanFlaw) → ClaimsUnsolvable plan → HasVerdict task plan v → A
-claim_has_no_steps plan task v (inl is) h = absurd (claim_without_feed h.steps (ap (λ (t : List ℕ). steps_in (plain t)) (sym is) ∙ h.steps_are))
-claim_has_no_steps plan task v (inr is) h = absurd (claim_with_feed h.steps (ap (λ (t : List ℕ). steps_in (plain t)) (sym is) ∙ h.steps_are))
+claim_has_no_steps plan task v (inl is) h = absurd (claim_without_feed h.steps (ap steps_in (sym is) ∙ h.steps_are))
+claim_has_no_steps plan task v (inr is) h = absurd (claim_with_feed h.steps (ap steps_in (sym is) ∙ h.steps_are))
 
 -- ---- the verdict on both
 

@@ -2,7 +2,6 @@
 use Rattle.std.proofs.Common.{◌≡◌, ℕ, zero, suc, ◌+◌, ◌<◌, ◌≤◌, Bool, true, false, cond, ◌&&◌, not, List, [], ◌∷◌, length, get_or, drop, Option, Some, None, refl, sym, ap, subst, ◌∙◌, arith}
 use Rattle.std.specs.Prelude.{Result, Ok, Err, find, unwrap_or, option_and_then, sum_by, IsSomeAnd}
 use Rattle.std.specs.List.{slice_get, list_all}
-use Rattle.std.specs.Str.{bytes_eq}
 use Rattle.std.specs.Option.{option_map_or}
 use Rattle.std.proofs.lemmas.Bool.{false≢true}
 use Rattle.std.proofs.lemmas.List.{drop_more, drop_all}
@@ -11,7 +10,7 @@ use Rattle.fdr.specs.declared.fact.Fact.{Fact}
 use Rattle.fdr.specs.Tasks as tasks
 use Rattle.fdr.specs.Tasks.{Operator, FiniteDomainTask, holds, applies, step, cost_of, plan_cost, successor, is_goal_state, LeadsToGoal}
 use Rattle.optplan_optimal_sas.specs.declared.flaw.PlanFlaw.{PlanFlaw}
-use Rattle.optplan_optimal_sas.specs.Runs.{first_applying, operator_for, first_failing, failing_condition, at_end, at_no_operator, at_step, state_after, verdict_from, verdict_of, AreApplied, AreStepsOfPlan}
+use Rattle.optplan_optimal_sas.specs.Runs.{is_named, first_applying, operator_for, first_failing, failing_condition, at_end, at_no_operator, at_step, state_after, verdict_from, verdict_of, AreApplied, AreStepsOfPlan}
 
 -- ---- the operator of a step applies
 
@@ -27,19 +26,19 @@ record AppliesAmong (state : List ℕ) (n o : ℕ) (ops : List Operator) : Type 
   is : slice_get ops place ≡ Some operator
   applies_there : applies operator state ≡ true
 
-found_if : (t : Bool) (state name : List ℕ) (n o : ℕ) (op : Operator) (ops : List Operator) → (bytes_eq op.name name && applies op state) ≡ t
+found_if : (t : Bool) (state name : List ℕ) (n o : ℕ) (op : Operator) (ops : List Operator) → (is_named name op && applies op state) ≡ t
     → (first_applying state name (n + 1) ops ≡ Some o → AppliesAmong state (n + 1) o ops)
     → cond t (Some n) (first_applying state name (n + 1) ops) ≡ Some o → AppliesAmong state n o (op ∷ ops)
 found_if true state name n o op ops test later found =
     let same : n ≡ o = ap (λ (r : Option ℕ). unwrap_or r 0) found in
-    record { place = 0; number = omega (arith, same); operator = op; is = refl; applies_there = (both_true (bytes_eq op.name name) (applies op state) test).1 }
+    record { place = 0; number = omega (arith, same); operator = op; is = refl; applies_there = (both_true (is_named name op) (applies op state) test).1 }
 found_if false state name n o op ops test later found =
     let r = later found in
     record { place = suc r.place; number = omega (arith, r.number); operator = r.operator; is = r.is; applies_there = r.applies_there }
 
 found : (state name : List ℕ) (n o : ℕ) (ops : List Operator) → first_applying state name n ops ≡ Some o → AppliesAmong state n o ops
 found state name n o [] is = absurd cc
-found state name n o (op ∷ ops) is = found_if (bytes_eq op.name name && applies op state) state name n o op ops refl (λ later. found state name (n + 1) o ops later) is
+found state name n o (op ∷ ops) is = found_if (is_named name op && applies op state) state name n o op ops refl (λ later. found state name (n + 1) o ops later) is
 
 step_if : (op : Operator) (state : List ℕ) (o : Option Operator) → o ≡ Some op → applies op state ≡ true
     → option_and_then (λ p. cond (applies p state) (Some (successor p state)) None) o ≡ Some (successor op state)
@@ -122,8 +121,8 @@ are_steps_of_plan task names cost is =
 
 -- ---- the run, step by step
 
-abbrev is_for : List ℕ → List ℕ → List Operator → ℕ → Bool
-is_for state name ops n = option_map_or (λ op. bytes_eq op.name name && applies op state) (slice_get ops n) false
+abbrev pub is_for : List ℕ → List ℕ → List Operator → ℕ → Bool
+is_for state name ops n = option_map_or (λ op. is_named name op && applies op state) (slice_get ops n) false
 
 first_at : (state name : List ℕ) (k n : ℕ) (ops : List Operator) → n < length ops
     → first_applying state name k (drop n ops) ≡ cond (is_for state name ops n) (Some k) (first_applying state name (k + 1) (drop (n + 1) ops))

@@ -13,7 +13,6 @@ use Rattle.checker_fdr.specs.Answers as checked
 use Rattle.checker_fdr.specs.declared.fault.CheckFault.TheVariants as check
 use Rattle.checker_fdr.specs.declared.verdict.Verdict.{Verdict}
 use Rattle.checker_fdr.specs.declared.verdict.Verdict.TheVariants.{Accepted, Rejected}
-use Rattle.optplan_plan_texts.specs.Plain.{plain}
 use Rattle.optplan_optimal_sas.specs.declared.fault.SasOptimalityFault.{SasOptimalityFault}
 use Rattle.optplan_optimal_sas.specs.declared.fault.SasOptimalityFault.TheVariants.{OutOfMemory, Sas, Plan, Cert}
 use Rattle.optplan_optimal_sas.specs.declared.verdict.SasOptimalityVerdict.{SasOptimalityVerdict}
@@ -43,7 +42,7 @@ IsCertificateDone sas plan cert = (IsCertificateJudged sas plan → ⊥) ⊎ ((v
 
 -- the plan's text has steps, or claims that there is no plan
 abbrev IsPlanRead : List ℕ → Type 0
-IsPlanRead plan = ((steps : List (List ℕ)) × (steps_in (plain plan) ≡ Ok steps)) ⊎ ClaimsUnsolvable plan
+IsPlanRead plan = ((steps : List (List ℕ)) × (steps_in plan ≡ Ok steps)) ⊎ ClaimsUnsolvable plan
 
 record IsRead (sas plan cert : List ℕ) : Type 0 where
   task : FiniteDomainTask
@@ -70,7 +69,7 @@ module _ (sas plan cert : List ℕ) (room : length sas < 2 ^ 64 - 1) where
 
   -- ---- no fault
 
-  plan_fault : (e : PlanFault) → IsPlanRead plan → (ClaimsUnsolvable plan → ⊥) → steps_in (plain plan) ≡ Err e → ⊥
+  plan_fault : (e : PlanFault) → IsPlanRead plan → (ClaimsUnsolvable plan → ⊥) → steps_in plan ≡ Err e → ⊥
   plan_fault e (inl (steps, is)) not_claimed fault = let both : Ok steps ≡ Err e = sym is ∙ fault in absurd cc
   plan_fault e (inr claims) not_claimed fault = not_claimed claims
 

@@ -9,7 +9,6 @@ use Rattle.validate.specs.declared.plan.PlanFault.TheVariants as plan_fault
 use Rattle.checker_fdr.specs.Answers as checked
 use Rattle.checker_fdr.specs.declared.fault.CheckFault.TheVariants as check
 use Rattle.checker_fdr.specs.declared.verdict.Verdict.TheVariants.{Accepted, Rejected}
-use Rattle.optplan_plan_texts.specs.Plain.{plain}
 use Rattle.optplan_optimal_sas.specs.declared.fault.SasOptimalityFault.{SasOptimalityFault}
 use Rattle.optplan_optimal_sas.specs.declared.fault.SasOptimalityFault.TheVariants.{OutOfMemory, Sas, Plan, Cert}
 use Rattle.optplan_optimal_sas.specs.declared.verdict.SasOptimalityVerdict.{SasOptimalityVerdict}
@@ -41,5 +40,5 @@ abbrev pub IsRefusal : List ℕ → List ℕ → List ℕ → SasOptimalityFault
 IsRefusal sas plan cert OutOfMemory = Unit {0}
 IsRefusal sas plan cert (Sas e) = (e ≢ sas_fault.OutOfMemory) × (task_in sas ≡ Err e)
 IsRefusal sas plan cert (Plan e) =
-    (e ≢ plan_fault.OutOfMemory) × ((task : FiniteDomainTask) × SpellsTask sas task) × (ClaimsUnsolvable plan → ⊥) × (steps_in (plain plan) ≡ Err e)
+    (e ≢ plan_fault.OutOfMemory) × ((task : FiniteDomainTask) × SpellsTask sas task) × (ClaimsUnsolvable plan → ⊥) × (steps_in plan ≡ Err e)
 IsRefusal sas plan cert (Cert e) = IsCertificateJudged sas plan × checked.IsRefusal sas cert (check.Cert e)

@@ -1,6 +1,7 @@
 pub mod Steps
 pub mod Views
 pub mod Runs
+pub mod Indexes
 pub mod Plans
 pub mod FlawLines
 pub mod Lines

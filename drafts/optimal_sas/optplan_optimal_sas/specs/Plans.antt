@@ -2,7 +2,6 @@
 use Rattle.std.specs.Prelude.{◌≡◌, ℕ, ◌⊎◌, List, codes, Result, Ok, Err}
 use Rattle.fdr.specs.Tasks.{FiniteDomainTask}
 use Rattle.sasfile_reader.specs.SasTexts.{SpellsTask}
-use Rattle.optplan_plan_texts.specs.Plain.{plain}
 use Rattle.optplan_optimal_sas.specs.declared.flaw.PlanFlaw.{PlanFlaw}
 use Rattle.optplan_optimal_sas.specs.Steps.{steps_in}
 use Rattle.optplan_optimal_sas.specs.Runs.{verdict_of, AreStepsOfPlan}
@@ -14,11 +13,10 @@ ClaimsUnsolvable text = (text ≡ codes "unsolvable") ⊎ (text ≡ codes "unsol
 -- the text has steps, and this is the verdict on them
 pub record HasVerdict (task : FiniteDomainTask) (text : List ℕ) (verdict : Result ℕ PlanFlaw) : Type 0 where
   pub steps : List (List ℕ)
-  pub steps_are : steps_in (plain text) ≡ Ok steps
+  pub steps_are : steps_in text ≡ Ok steps
   pub verdict_is : verdict_of task steps ≡ verdict
 
--- The texts spell a task, and the steps of a plan that is valid for it at this cost. The text of the plan may have time
--- stamps, or the line of a limit.
+-- the texts spell a task, and the steps of a plan that is valid for it at this cost
 pub record SpellTaskAndValidPlan (sas plan : List ℕ) (cost : ℕ) : Type 0 where
   pub task : FiniteDomainTask
   pub task_spelled : SpellsTask sas task
@@ -33,5 +31,5 @@ pub record SpellTaskAndInvalidPlan (sas plan : List ℕ) (flaw : PlanFlaw) : Typ
 -- the text has the steps of a plan of the task, which costs this much
 pub record SpellsPlan (task : FiniteDomainTask) (text : List ℕ) (cost : ℕ) : Type 0 where
   pub steps : List (List ℕ)
-  pub steps_are : steps_in (plain text) ≡ Ok steps
+  pub steps_are : steps_in text ≡ Ok steps
   pub of_plan : AreStepsOfPlan task steps cost

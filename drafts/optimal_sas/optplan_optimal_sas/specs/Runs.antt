@@ -1,17 +1,22 @@
 -- Running a plan whose steps are names of operators.
-use Rattle.std.specs.Prelude.{◌≡◌, ℕ, ◌+◌, ◌&&◌, not, if◌then◌else◌, find, List, [], ◌∷◌, Option, Some, None, option_and_then, unwrap_or, Result, Ok, Err}
+use Rattle.std.specs.Prelude.{◌≡◌, ℕ, ◌+◌, Bool, ◌&&◌, not, if◌then◌else◌, find, List, [], ◌∷◌, Option, Some, None, option_and_then, unwrap_or, Result, Ok, Err}
 use Rattle.std.specs.Str.{bytes_eq}
 use Rattle.fdr.specs.declared.fact.Fact.{Fact}
 use Rattle.fdr.specs.Tasks.{Operator, FiniteDomainTask, holds, applies, step, cost_of, plan_cost, IsPlan}
 use Rattle.optplan_optimal_sas.specs.declared.flaw.PlanFlaw.{PlanFlaw}
 use Rattle.optplan_optimal_sas.specs.declared.flaw.PlanFlaw.TheVariants.{NoSuchOperator, NotApplicable, GoalOpen}
+use Rattle.optplan_optimal_sas.specs.Steps.{without_blanks}
 
 -- ---- the operator of a step
+
+-- whether the operator has this name, if the blanks at both ends of its own do not count
+abbrev pub is_named : List ℕ → Operator → Bool
+is_named name op = bytes_eq name (without_blanks op.name)
 
 -- the number of the first operator with this name that applies in the state; the first of these has the number n
 abbrev pub first_applying : List ℕ → List ℕ → ℕ → List Operator → Option ℕ
 first_applying state name n [] = None
-first_applying state name n (op ∷ ops) = if bytes_eq op.name name && applies op state then Some n else first_applying state name (n + 1) ops
+first_applying state name n (op ∷ ops) = if is_named name op && applies op state then Some n else first_applying state name (n + 1) ops
 
 -- Of the operators with the name of a step, the step applies the first that is applicable.
 abbrev pub operator_for : FiniteDomainTask → List ℕ → List ℕ → Option ℕ
@@ -19,7 +24,7 @@ operator_for task state name = first_applying state name 0 task.operators
 
 -- the first operator with this name
 abbrev pub first_named : List ℕ → List Operator → Option Operator
-first_named name ops = find (λ op. bytes_eq op.name name) ops
+first_named name ops = find (is_named name) ops
 
 -- the first fact that does not hold
 abbrev pub first_failing : List ℕ → List Fact → Option Fact

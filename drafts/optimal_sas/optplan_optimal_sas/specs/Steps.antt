@@ -9,7 +9,7 @@ use Rattle.validate.specs.declared.plan.PlanFault.TheVariants.{PlanShape, PlanLi
 abbrev pub max_steps : ℕ
 max_steps = 1048576
 
--- ---- one line
+-- ---- blanks
 
 -- the byte before others, or nothing if it is a blank and no byte follows
 abbrev pub before_end : ℕ → List ℕ → List ℕ
@@ -20,6 +20,12 @@ before_end b (c ∷ cs) = b ∷ c ∷ cs
 abbrev pub without_end : List ℕ → List ℕ
 without_end [] = []
 without_end (b ∷ bs) = before_end b (without_end bs)
+
+-- the bytes without the blanks at both ends
+abbrev pub without_blanks : List ℕ → List ℕ
+without_blanks bytes = without_end (after_blanks bytes)
+
+-- ---- one line
 
 -- the bytes before the last, if that is a closing parenthesis
 abbrev pub before_close : List ℕ → Option (List ℕ)
@@ -32,10 +38,10 @@ abbrev pub after_open : List ℕ → Option (List ℕ)
 after_open [] = None
 after_open (b ∷ bs) = if b == 40 then Some bs else None
 
--- The name in a line without the blanks before it: all bytes between `(` and `)`, without the blanks before `)`. Only
--- blanks follow.
+-- The name in a line without the blanks before it: all bytes between `(` and the last `)`, without the blanks at both
+-- ends. Only blanks follow that `)`.
 abbrev pub name_in : List ℕ → Option (List ℕ)
-name_in bytes = option_map without_end (option_and_then before_close (option_map without_end (after_open bytes)))
+name_in bytes = option_map without_blanks (option_and_then before_close (option_map without_end (after_open bytes)))
 
 -- whether a line without the blanks before it has no step: it is empty or a comment
 abbrev pub is_passed_over : List ℕ → Bool

@@ -2,11 +2,10 @@
 
 ghost use Rattle.std.specs.Prelude.{◌≡◌};
 ghost use Rattle.optplan_optimal_sas.specs.declared.fault.SasOptimalityFault.TheVariants.{OutOfMemory};
-ghost use Rattle.optplan_optimal_sas.specs.Faults.{fault_of_sas, fault_of_plan, fault_of_check};
+ghost use Rattle.optplan_optimal_sas.specs.Faults.{fault_of_sas, fault_of_plan, fault_of_cert};
 
 use cert_text::CertFault;
-use checker_fdr::CheckFault;
-use sasfile::SasFault;
+use sasfile_reader::SasFault;
 use std::alloc::AllocError;
 use validate::PlanFault;
 
@@ -62,14 +61,20 @@ impl From<PlanFault> for SasOptimalityFault {
     }
 }
 
-impl From<CheckFault> for SasOptimalityFault {
-    ghost from_gives = { λ fault e. e ≡ fault_of_check fault };
+impl From<CertFault> for SasOptimalityFault {
+    ghost from_gives = { λ fault e. e ≡ fault_of_cert fault };
 
-    fn from(fault: CheckFault) -> SasOptimalityFault {
+    fn from(fault: CertFault) -> SasOptimalityFault {
         match fault {
-            CheckFault::OutOfMemory => SasOptimalityFault::OutOfMemory,
-            CheckFault::Sas(fault) => SasOptimalityFault::Sas(fault),
-            CheckFault::Cert(fault) => SasOptimalityFault::Cert(fault),
+            CertFault::OutOfMemory => SasOptimalityFault::OutOfMemory,
+            CertFault::Header
+            | CertFault::Expected(_)
+            | CertFault::Number(_)
+            | CertFault::Truncated
+            | CertFault::Trailing(_)
+            | CertFault::Order(_)
+            | CertFault::Classes(_)
+            | CertFault::TooLong => SasOptimalityFault::Cert(fault),
         }
     }
 }

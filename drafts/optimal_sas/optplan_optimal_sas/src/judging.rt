@@ -1,31 +1,27 @@
 //! The verdict on the texts of a finite-domain task, of a plan and of a certificate.
 
-ghost use Rattle.std.specs.Prelude.{◌≡◌, ◌≢◌, ◌<◌, ◌≤◌, ◌↔◌, ℕ, List, Ok, Err, IsTrue, IfOk, IfErr, IfSome, IfNone, length};
-ghost use Rattle.cost.specs.Distances.{Distance, Finite, Infinite, ◌≤ᵈ◌};
+ghost use Rattle.std.specs.Prelude.{◌≡◌, ◌<◌, ◌≤◌, ◌↔◌, ℕ, List, IsTrue, IfOk, IfErr, IfSome, IfNone};
+ghost use Rattle.cost.specs.Distances.{Distance, Finite, ◌≤ᵈ◌};
 ghost use Rattle.fdr.specs.Tasks.{FiniteDomainTask, EveryPlanCostsAtLeast};
 ghost use Rattle.sasfile_reader.specs.SasTexts.{SpellsTask};
 ghost use Rattle.checker_fdr.specs.Answers as checked;
 ghost use Rattle.checker_fdr.specs.declared.verdict.Verdict.TheVariants.{Accepted};
-ghost use Rattle.optplan_plan_texts.specs.Plain.{plain};
-ghost use Rattle.optplan_optimal_sas.specs.Steps.{max_steps, steps_in};
-ghost use Rattle.optplan_optimal_sas.specs.Views.{names_of};
 ghost use Rattle.optplan_optimal_sas.specs.Plans.{ClaimsUnsolvable, HasVerdict, SpellTaskAndValidPlan, SpellsPlan};
 ghost use Rattle.optplan_optimal_sas.specs.Answers.{IsAnswer, IsRefusal};
 ghost use Rattle.optplan_optimal_sas.specs.Guarantees.{Guarantees};
 
+use crate::certificate::check_for_task;
 use crate::fault::SasOptimalityFault;
 use crate::flaw::PlanFlaw;
 use crate::reading::read_steps;
 use crate::run::run_steps;
 use crate::verdict::SasOptimalityVerdict;
-use checker_fdr::{Verdict, check_sas_owned};
+use checker_fdr::Verdict;
 use cost::Dist;
 use fdr::FdrTask;
-use optplan_plan_texts::to_plain;
-use sasfile::read_sas;
+use sasfile_reader::read_sas;
 use std::alloc::Global;
 use std::thread::Threads;
-use validate::PlanFault;
 
 // ---- verdicts on the plan and on the certificate, together
 
@@ -57,7 +53,9 @@ fn with_valid_plan(cost: u64, certificate: Verdict) -> SasOptimalityVerdict
             Some(bound) => SasOptimalityVerdict::Gap { cost, bound },
             None => SasOptimalityVerdict::Optimal(cost),
         },
-        Verdict::Rejected(violation) => SasOptimalityVerdict::CertificateRejected { cost, violation },
+        Verdict::Rejected(violation) => {
+            SasOptimalityVerdict::CertificateRejected { cost, violation }
+        }
     }
 }
 
@@ -78,39 +76,29 @@ fn with_claim(certificate: Verdict) -> SasOptimalityVerdict
 
 // ---- the texts one by one
 
-/// Reads the task that the text spells. Fails with the first fault of the text.
-fn read_task(alloc: Global, sas: &[u8]) -> Result<FdrTask, SasOptimalityFault>
-    ensures found { IfOk result (λ task. SpellsTask sas.now task) }
-    ensures refused { (plan cert : List ℕ) → IfErr result (IsRefusal sas.now plan cert) }
+/// Reads the task that the text spells, and drops the text. Fails with the first fault of the text.
+fn read_task(alloc: Global, sas: Vec<u8>) -> Result<FdrTask, SasOptimalityFault>
+    ensures found { IfOk result (λ task. SpellsTask sas.items task) }
+    ensures only { (other : FiniteDomainTask) → SpellsTask sas.items other → IfOk result (λ task. task ≡ other) }
+    ensures refused { (plan cert : List ℕ) → IfErr result (IsRefusal sas.items plan cert) }
 {
-    let task = read_sas(alloc, sas)?;
+    let task = read_sas(alloc, &sas)?;
     Ok(task)
 }
 
-/// Reads the steps of a plan, whose text may have time stamps or the line of a limit. Fails with the first fault of the
-/// text.
-fn read_plan_steps(alloc: Global, plan: Vec<u8>) -> Result<Vec<Vec<u8>>, PlanFault>
-    ensures found { IfOk result (λ steps. steps_in (plain plan.items) ≡ Ok (names_of steps.items)) }
-    ensures few { IfOk result (λ steps. length steps.items ≤ max_steps) }
-    ensures fault { IfErr result (λ e. e ≢ PlanFault.OutOfMemory → steps_in (plain plan.items) ≡ Err e) }
-{
-    let mut text = plan;
-    to_plain(&mut text);
-    read_steps(alloc, &text)
-}
-
-/// Returns the cost of the plan if it is valid for the task, or what is wrong with it first. Fails with the first fault
-/// of the plan's text, or if allocation fails. The text and the task are dropped.
+/// Returns the cost of the plan if it is valid for the task, or what is wrong with it first. The text is dropped. Fails
+/// with the first fault of the text, or if allocation fails.
 fn judge_steps(
     alloc: Global,
-    task: FdrTask,
+    task: &FdrTask,
     plan: Vec<u8>,
 ) -> Result<Result<u64, PlanFlaw>, SasOptimalityFault>
-    ensures judged { IfOk result (λ verdict. HasVerdict task plan.items verdict) }
-    ensures refused { (sas cert : List ℕ) → SpellsTask sas task → (ClaimsUnsolvable plan.items → ⊥) → IfErr result (IsRefusal sas plan.items cert) }
+    ensures judged { IfOk result (λ verdict. HasVerdict task.now plan.items verdict) }
+    ensures refused { (sas cert : List ℕ) → SpellsTask sas task.now → (ClaimsUnsolvable plan.items → ⊥) → IfErr result (IsRefusal sas plan.items cert) }
 {
-    let steps = read_plan_steps(alloc, plan)?;
-    let verdict = run_steps(alloc, &task, &steps)?;
+    let steps = read_steps(alloc, &plan)?;
+    drop(plan);
+    let verdict = run_steps(alloc, task, &steps)?;
     Ok(verdict)
 }
 
@@ -118,15 +106,15 @@ fn judge_steps(
 /// of the certificate's text, or if allocation fails.
 fn judge_valid_plan<R: AllocGlobal + Threads + Sync>(
     rt: &R,
+    task: &FdrTask,
     cost: u64,
-    sas: Vec<u8>,
     cert: Vec<u8>,
 ) -> Result<SasOptimalityVerdict, SasOptimalityFault>
-    ensures answer { (plan : List ℕ) → SpellTaskAndValidPlan sas.items plan cost → IfOk result (IsAnswer sas.items plan cert.items) }
-    ensures refused { (plan : List ℕ) → SpellTaskAndValidPlan sas.items plan cost → IfErr result (IsRefusal sas.items plan cert.items) }
-    ensures guarantees { (task : FiniteDomainTask) (plan : List ℕ) → SpellsTask sas.items task → SpellsPlan task plan cost → IfOk result (Guarantees task plan) }
+    ensures answer { (sas plan : List ℕ) → SpellsTask sas task.now → SpellTaskAndValidPlan sas plan cost → IfOk result (IsAnswer sas plan cert.items) }
+    ensures refused { (sas plan : List ℕ) → SpellsTask sas task.now → SpellTaskAndValidPlan sas plan cost → IfErr result (IsRefusal sas plan cert.items) }
+    ensures guarantees { (plan : List ℕ) → SpellsPlan task.now plan cost → IfOk result (Guarantees task.now plan) }
 {
-    let certificate = check_sas_owned(rt, sas, cert)?;
+    let certificate = check_for_task(rt, task, cert)?;
     Ok(with_valid_plan(cost, certificate))
 }
 
@@ -134,34 +122,32 @@ fn judge_valid_plan<R: AllocGlobal + Threads + Sync>(
 /// the certificate's text, or if allocation fails.
 fn judge_claim<R: AllocGlobal + Threads + Sync>(
     rt: &R,
-    sas: Vec<u8>,
+    task: &FdrTask,
     cert: Vec<u8>,
 ) -> Result<SasOptimalityVerdict, SasOptimalityFault>
-    ensures answer { (plan : List ℕ) → ClaimsUnsolvable plan → IfOk result (IsAnswer sas.items plan cert.items) }
-    ensures refused { (plan : List ℕ) → ClaimsUnsolvable plan → IfErr result (IsRefusal sas.items plan cert.items) }
-    ensures guarantees { (task : FiniteDomainTask) (plan : List ℕ) → SpellsTask sas.items task → IfOk result (Guarantees task plan) }
+    ensures answer { (sas plan : List ℕ) → SpellsTask sas task.now → ClaimsUnsolvable plan → IfOk result (IsAnswer sas plan cert.items) }
+    ensures refused { (sas plan : List ℕ) → SpellsTask sas task.now → ClaimsUnsolvable plan → IfErr result (IsRefusal sas plan cert.items) }
+    ensures guarantees { (plan : List ℕ) → IfOk result (Guarantees task.now plan) }
 {
-    let certificate = check_sas_owned(rt, sas, cert)?;
+    let certificate = check_for_task(rt, task, cert)?;
     Ok(with_claim(certificate))
 }
 
-/// Returns the verdict on the texts of a plan and of a certificate for this task, which its text spells. Fails with the
-/// first fault of the plan's text or, if the plan is valid, of the certificate's, or if allocation fails.
+/// Returns the verdict on the texts of a plan and of a certificate for this task. Fails with the first fault of the
+/// plan's text or, if the plan is valid, of the certificate's, or if allocation fails.
 fn judge_plan<R: AllocGlobal + Threads + Sync>(
     rt: &R,
-    task: FdrTask,
-    sas: Vec<u8>,
+    task: &FdrTask,
     plan: Vec<u8>,
     cert: Vec<u8>,
 ) -> Result<SasOptimalityVerdict, SasOptimalityFault>
-    requires { SpellsTask sas.items task }
-    ensures answer { IfOk result (IsAnswer sas.items plan.items cert.items) }
-    ensures refused { (ClaimsUnsolvable plan.items → ⊥) → IfErr result (IsRefusal sas.items plan.items cert.items) }
-    ensures guarantees { (other : FiniteDomainTask) → SpellsTask sas.items other → IfOk result (Guarantees other plan.items) }
+    ensures answer { (sas : List ℕ) → SpellsTask sas task.now → IfOk result (IsAnswer sas plan.items cert.items) }
+    ensures refused { (sas : List ℕ) → SpellsTask sas task.now → (ClaimsUnsolvable plan.items → ⊥) → IfErr result (IsRefusal sas plan.items cert.items) }
+    ensures guarantees { IfOk result (Guarantees task.now plan.items) }
 {
     let verdict = judge_steps(rt.alloc(), task, plan)?;
     match verdict {
-        Ok(cost) => judge_valid_plan(rt, cost, sas, cert),
+        Ok(cost) => judge_valid_plan(rt, task, cost, cert),
         Err(flaw) => Ok(SasOptimalityVerdict::PlanRejected(flaw)),
     }
 }
@@ -176,8 +162,8 @@ fn judge_plan<R: AllocGlobal + Threads + Sync>(
 /// `unsolvable`, with its line feed or without, the verdict is the one on this claim.
 ///
 /// Fails with the first fault of the task's text; or else with the first fault of the plan's text; or, if the plan is
-/// valid or is that claim, with the first fault of the certificate's text; or if allocation fails. Each text is dropped
-/// when it is no longer needed.
+/// valid or is that claim, with the first fault of the certificate's text; or if allocation fails. The texts are read
+/// in this order, and each is dropped as soon as it is parsed.
 pub fn judge_optimality_sas<R: AllocGlobal + Threads + Sync>(
     rt: &R,
     sas: Vec<u8>,
@@ -191,11 +177,10 @@ pub fn judge_optimality_sas<R: AllocGlobal + Threads + Sync>(
     // What the verdict says of plans holds for the task, whoever wrote the plan and the certificate.
     ensures guarantees { (task : FiniteDomainTask) → SpellsTask sas.items task → IfOk result (Guarantees task plan.items) }
 {
-    let task = read_task(rt.alloc(), &sas)?;
+    let task = read_task(rt.alloc(), sas)?;
     if claims_unsolvable(&plan) {
-        drop(task);
-        judge_claim(rt, sas, cert)
+        judge_claim(rt, &task, cert)
     } else {
-        judge_plan(rt, task, sas, plan, cert)
+        judge_plan(rt, &task, plan, cert)
     }
 }

@@ -41,7 +41,7 @@ pub fn worked_lines()
 /// Proves worked examples: the steps of texts, and the faults of others.
 pub fn worked_steps()
     ensures steps { (steps_in (codes "(go a b)\n\n; next\n (hop ) \r\n") ≡ Ok (codes "go a b" ∷ codes "hop" ∷ [])) × (steps_in [] ≡ Ok []) ×
-        (steps_in (plain (codes "limit 9\n0.5: (hop) [3]")) ≡ Ok (codes "hop" ∷ [])) × (steps_in (codes "( hop)") ≡ Ok (codes " hop" ∷ [])) ×
+        (steps_in (plain (codes "limit 9\n0.5: (hop) [3]")) ≡ Ok (codes "hop" ∷ [])) × (steps_in (codes "( hop\t)") ≡ Ok (codes "hop" ∷ [])) ×
         (steps_in (codes "((a) b)") ≡ Ok (codes "(a) b" ∷ [])) }
     ensures faults { (steps_in (codes "(hop)\n  go\n") ≡ Err (PlanShape 8)) × (steps_in (codes "(hop) ; c") ≡ Err (PlanShape 0)) ×
         (steps_in (plain (codes "2: (hop)\n1: (hop)\n")) ≡ Err (PlanShape 9)) }

@@ -4,8 +4,11 @@
 //! that of the certificate, and searches nothing.
 #![tactic(auto)]
 
+mod blanks;
+mod certificate;
 mod fault;
 mod flaw;
+mod index;
 mod judging;
 mod laws;
 mod reading;

@@ -7,25 +7,15 @@ ghost use Rattle.optplan_optimal_sas.specs.Steps.{max_steps, steps_in};
 ghost use Rattle.optplan_optimal_sas.specs.Views.{names_of, with_front};
 ghost use Rattle.optplan_plan_texts.specs.Lines.{lines};
 
-use validate::PlanFault;
-use optplan_plan_texts::{after_blanks, is_blank, line_length};
+use crate::blanks::{without_blanks, without_end};
+use optplan_plan_texts::{after_blanks, line_length};
 use std::alloc::Global;
+use validate::PlanFault;
 
 /// The greatest number of steps of a plan.
 const MAX_STEPS: usize = 1_048_576;
 
 // ---- one line
-
-/// Returns the bytes without the blanks at their end.
-fn without_end(bytes: &[u8]) -> &[u8]
-    ensures { result.now ≡ spec.without_end bytes.now }
-{
-    let mut end = bytes.len();
-    while end > 0 && is_blank(bytes[end - 1]) {
-        end -= 1;
-    }
-    &bytes[..end]
-}
 
 /// Returns the bytes before the last, if that is a closing parenthesis.
 fn before_close(bytes: &[u8]) -> Option<&[u8]>
@@ -51,7 +41,7 @@ fn name_in(bytes: &[u8]) -> Option<&[u8]>
     match bytes {
         [b'(', inner @ ..] => {
             let name = before_close(without_end(inner))?;
-            Some(without_end(name))
+            Some(without_blanks(name))
         }
         _ => None,
     }
@@ -119,8 +109,8 @@ fn read_names(alloc: Global, text: &[u8]) -> Result<Vec<Vec<u8>>, PlanFault>
     Ok(names)
 }
 
-/// Reads the names of the steps of a plan: on each line one, in parentheses, with blanks around it. Empty lines and
-/// lines that are comments have none.
+/// Reads the names of the steps of a plan: on each line one, in parentheses, with or without blanks inside and outside
+/// them. Empty lines and lines that begin with `;` have none.
 ///
 /// Fails with F25 at the first byte, other than a blank, of the first other line; if there is none, with F26 for more
 /// than 1,048,576 steps; or if allocation fails.

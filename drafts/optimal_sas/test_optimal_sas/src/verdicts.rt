@@ -2,7 +2,8 @@
 
 use cert_text::CertFault;
 use optplan_optimal_sas::{SasOptimalityFault, SasOptimalityVerdict, judge_optimality_sas};
-use sasfile::SasFault;
+use optplan_plan_texts::to_plain;
+use sasfile_reader::SasFault;
 use std::alloc::AllocError;
 use std::test::Fail;
 use std::thread::Threads;
@@ -21,17 +22,27 @@ const NO_HOP: &str = "begin_version\n3\nend_version\nbegin_metric\n1\nend_metric
 begin_variable\nvar0\n-1\n3\na\nb\nc\nend_variable\n0\nbegin_state\n0\nend_state\n\
 begin_goal\n1\n0 2\nend_goal\n1\nbegin_operator\ngo a b\n0\n1\n0 0 0 1\n2\nend_operator\n0\n";
 
+/// Two values, and an operator whose name begins with a blank: from a to b for 4. The goal is b.
+const BLANK: &str = "begin_version\n3\nend_version\nbegin_metric\n1\nend_metric\n1\n\
+begin_variable\nvar0\n-1\n2\na\nb\nend_variable\n0\nbegin_state\n0\nend_state\n\
+begin_goal\n1\n0 1\nend_goal\n1\nbegin_operator\n go \n0\n1\n0 0 0 1\n4\nend_operator\n0\n";
+
+/// Every plan of `BLANK` costs at least 4.
+const FOUR: &str = "optplan-cert 1\nsas\nbound 4\ncolumns 0\nclosed 1\n0 0\nend\n";
+
 /// Every plan of `HOPS` costs at least 5: a search that closed a and b, without a heuristic.
 const FIVE: &str = "optplan-cert 1\nsas\nbound 5\ncolumns 0\nclosed 2\n0 0\n2 1\nend\n";
 
-/// The same for the bound 3, and for the bound 6, which is wrong.
+/// The same for the bound 3.
 const THREE: &str = "optplan-cert 1\nsas\nbound 3\ncolumns 0\nclosed 2\n0 0\n2 1\nend\n";
 
+/// The same for the bound 6, which is wrong.
 const SIX: &str = "optplan-cert 1\nsas\nbound 6\ncolumns 0\nclosed 2\n0 0\n2 1\nend\n";
 
-/// `NO_HOP` has no plan.
+/// The claim that `NO_HOP` has no plan.
 const NONE: &str = "optplan-cert 1\nsas\nbound unsolvable\ncolumns 0\nclosed 2\n0 0\n2 1\nend\n";
 
+/// Judges the texts, the plan's in its plain form, as the command does.
 fn judge<R: AllocGlobal + Threads + Sync>(
     rt: &R,
     sas: &str,
@@ -39,7 +50,8 @@ fn judge<R: AllocGlobal + Threads + Sync>(
     cert: &str,
 ) -> Result<Result<SasOptimalityVerdict, SasOptimalityFault>, AllocError> {
     let sas = Vec::from_slice(rt.alloc(), sas.as_bytes())?;
-    let plan = Vec::from_slice(rt.alloc(), plan.as_bytes())?;
+    let mut plan = Vec::from_slice(rt.alloc(), plan.as_bytes())?;
+    to_plain(&mut plan);
     let cert = Vec::from_slice(rt.alloc(), cert.as_bytes())?;
     Ok(judge_optimality_sas(rt, sas, plan, cert))
 }
@@ -51,6 +63,10 @@ const LINES: &[(&str, &str, &str, &str)] = &[
     (HOPS, "limit 8\n(go a b)\n(hop)\n; cost = 5 (general cost)\n", FIVE, "optimal 5"),
     (HOPS, "0: (go a b) [2]\n2: (hop) [3]\n", FIVE, "optimal 5"),
     (HOPS, "(hop)", FIVE, "valid 9, at least 5"),
+    (HOPS, "( hop\t)", FIVE, "valid 9, at least 5"),
+    (BLANK, "(go)", FOUR, "optimal 4"),
+    (BLANK, "( go )", FOUR, "optimal 4"),
+    (BLANK, "(GO)", FOUR, "no such operator 1"),
     (HOPS, "(go a b)\n(hop)\n", THREE, "valid 5, at least 3"),
     (HOPS, "(go a b)\n(hop)\n", SIX, "valid 5, rejected C8 state 1 op 1"),
     (HOPS, "(go a b)\n(fly)\n", "", "no such operator 2"),

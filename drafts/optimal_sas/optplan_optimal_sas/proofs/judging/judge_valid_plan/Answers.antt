@@ -1,18 +1,17 @@
 use Rattle.std.proofs.Common.{inl}
-use Rattle.optplan_optimal_sas.specs.Faults.{fault_of_check}
 use Rattle.optplan_optimal_sas.specs.Answers.{IsRefusal}
-use Rattle.optplan_optimal_sas.proofs.Judgements.{err_as, refusal_of_check}
+use Rattle.optplan_optimal_sas.proofs.Judgements.{err_as}
 use Rattle.optplan_optimal_sas.proofs.judging.judge_valid_plan.Goals as goal
 
 pub returns-in_err-certificate-clause-refused : goal.returns-in_err-certificate-clause-refused
-returns-in_err-certificate-clause-refused g c = λ plan valid.
-    let e = c.in_err-certificate.field-0.0 in
-    err_as c.from_residual.result (fault_of_check e) (IsRefusal c.args.sas.items plan c.args.cert.items) c.from_residual.ensures.1
-    (refusal_of_check c.args.sas.items plan c.args.cert.items e (inl (c.args.cost, valid)) c.in_err-certificate.ensures.refused)
+returns-in_err-certificate-clause-refused g c = λ sas plan spelled valid.
+    err_as c.from_residual.result c.in_err-certificate.field-0.0 (IsRefusal sas plan c.args.cert.items) c.from_residual.ensures.1
+    (c.in_err-certificate.ensures.refused sas plan spelled (inl (c.args.cost, valid)))
 
 pub returns-clause-answer : goal.returns-clause-answer
-returns-clause-answer g c = λ plan valid. c.with_valid_plan.ensures.answer c.args.sas.items plan c.args.cert.items valid c.in_ok-certificate.ensures.answer
+returns-clause-answer g c = λ sas plan spelled valid.
+    c.with_valid_plan.ensures.answer sas plan c.args.cert.items valid (c.in_ok-certificate.ensures.answer sas spelled)
 
 pub returns-clause-guarantees : goal.returns-clause-guarantees
-returns-clause-guarantees g c = λ task plan spelled is.
-    c.with_valid_plan.ensures.guarantees task plan is (λ bound accepted. c.in_ok-certificate.ensures.bound task bound spelled accepted)
+returns-clause-guarantees g c = λ plan is.
+    c.with_valid_plan.ensures.guarantees c.args.task.now plan is (λ bound accepted. c.in_ok-certificate.ensures.bound bound accepted)

@@ -1,7 +1,7 @@
 use Rattle.std.proofs.Common.{arith, sym, ◌∙◌}
 use Rattle.optplan_optimal_sas.proofs.Ends.{less, done, nothing}
-use Rattle.optplan_optimal_sas.proofs.reading.without_end.Goals as goal
-use Rattle.optplan_optimal_sas.proofs.reading.without_end.Goals.{then-loop-end-test+else-is_blank, else-loop-end-test}
+use Rattle.optplan_optimal_sas.proofs.blanks.without_end.Goals as goal
+use Rattle.optplan_optimal_sas.proofs.blanks.without_end.Goals.{then-loop-end-test+else-is_blank, else-loop-end-test}
 
 pub loop-end-preserved : goal.loop-end-preserved
 loop-end-preserved c =
