@@ -1,25 +1,25 @@
 -- All warnings about two texts that spell a task.
-use Rattle.std.specs.Prelude.{◌≡◌, ℕ, Bool, true, false, if◌then◌else◌, List, [], ◌∷◌, ◌++◌, codes, IsPermutation}
+use Rattle.std.specs.Prelude.{ℕ, Bool, true, false, if◌then◌else◌, List, [], ◌∷◌, ◌++◌, codes, IsPermutation}
 use Rattle.std.specs.List.{flat_map}
 use Rattle.sexp.specs.Forms.{Forms, none, word, group}
 use Rattle.pddl_names.specs.Names.{same_text}
 use Rattle.pddl_syntax.specs.declared.fault.PlanningFile.TheVariants.{Domain, Problem}
 use Rattle.pddl_syntax.specs.Sections.{Part, root_parts}
 use Rattle.pddl_syntax.specs.Parameters.{parameter_names, parameter_types}
-use Rattle.pddl_terms.specs.declared.beginning.Setting.TheVariants.{InCondition, InEffect, InInitial}
-use Rattle.pddl_domain.specs.Objects.{Objects}
+use Rattle.pddl_terms.specs.declared.beginning.Setting.TheVariants.{InCondition, InGoal, InEffect, InInitial}
+use Rattle.pddl_task.specs.Atoms.{contains}
 use Rattle.pddl_task.specs.Planning.{PlanningTask}
 use Rattle.pddl_problem.specs.Goals.{goal_literals, first_alone}
-use Rattle.pddl.specs.Texts.{IsTree, SpellTask, part, inside_of, types_of, supertypes_of, constants_of, declarations_of, objects_of, scope_over, actions_of, task_of}
+use Rattle.pddl.specs.Texts.{IsTree, SpellTask, part, inside_of, types_of, supertypes_of, actions_of, task_of}
 use Rattle.optplan_lint.specs.declared.warning.WarningKind.TheVariants.{UnusedPredicate, UnusedFunction}
 use Rattle.optplan_lint.specs.declared.mentions.MentionKind.TheVariants.{Predicate, Function}
 use Rattle.optplan_lint.specs.Warnings.{Warning, IsInOrder}
-use Rattle.optplan_lint.specs.TypedWords.{TextWord, is_among, name_words, type_words, untyped_words}
+use Rattle.optplan_lint.specs.TypedWords.{TextWord, is_among, name_words, type_words, parameter_type_words, untyped_words}
 use Rattle.optplan_lint.specs.Signatures.{Signatures, no_signatures, signatures_with}
 use Rattle.optplan_lint.specs.Mentions.{Mentioned, mentions, metric_mentions, is_mentioned, is_term}
 use Rattle.optplan_lint.specs.Arguments.{Typing, Variables, no_variables, mention_warnings}
 use Rattle.optplan_lint.specs.Unused.{supertype_warnings, type_warnings, object_warnings, untyped_warnings, head_warnings}
-use Rattle.optplan_lint.specs.TrueGoals.{goal_warnings}
+use Rattle.optplan_lint.specs.TrueGoals.{goal_scope, goal_warnings}
 use Rattle.optplan_lint.specs.Titles.{text_name, domain_warnings}
 
 -- ---- the parts of an action
@@ -45,39 +45,21 @@ action_mentions action = mentions InCondition (value_after (codes ":precondition
 
 -- ---- declarations
 
--- the objects of a problem after the constants of its domain
-abbrev pub all_objects : Forms → Forms → Objects
-all_objects d p = objects_of (declarations_of d) (constants_of d) p
-
 abbrev pub signatures_in : Forms → List ℕ → Signatures
 signatures_in d section = signatures_with (types_of d) no_signatures (inside_of d section)
 
-abbrev pub typing_of : Forms → Forms → Typing
-typing_of d p = record {
+-- the declarations of a domain, with the objects of a task
+abbrev pub typing_of : Forms → PlanningTask → Typing
+typing_of d task = record {
   types = types_of d;
   supertypes = supertypes_of d;
   predicates = signatures_in d (codes ":predicates");
   functions = signatures_in d (codes ":functions");
-  objects = (all_objects d p).names;
-  object_types = (all_objects d p).types;
+  objects = task.vocabulary.objects;
+  object_types = task.object_types;
 }
 
--- the declarations of this domain, with the objects of a task
-pub record IsTypingOf (d : Forms) (task : PlanningTask) (typing : Typing) : Type 0 where
-  pub types : typing.types ≡ types_of d
-  pub supertypes : typing.supertypes ≡ supertypes_of d
-  pub predicates : typing.predicates ≡ signatures_in d (codes ":predicates")
-  pub functions : typing.functions ≡ signatures_in d (codes ":functions")
-  pub objects : typing.objects ≡ task.vocabulary.objects
-  pub object_types : typing.object_types ≡ task.object_types
-
 -- ---- uses
-
--- the types that the parameters of the items `(HEAD PARAMETERS)` of a section name
-abbrev pub parameter_type_words : Forms → List TextWord
-parameter_type_words none = []
-parameter_type_words (word s e t f) = parameter_type_words f
-parameter_type_words (group s e i f) = type_words i ++ parameter_type_words f
 
 -- the types that the parameters of actions name
 abbrev pub action_type_words : Forms → List TextWord
@@ -101,7 +83,7 @@ abbrev pub initial_mentions : Forms → List Mentioned
 initial_mentions p = mentions InInitial (inside_of p (codes ":init"))
 
 abbrev pub goal_mentions : Forms → List Mentioned
-goal_mentions p = mentions InCondition (inside_of p (codes ":goal"))
+goal_mentions p = mentions InGoal (inside_of p (codes ":goal"))
 
 -- what the actions of a domain mention
 abbrev pub domain_mentions : Forms → List Mentioned
@@ -144,32 +126,48 @@ abbrev pub is_empty : List TextWord → Bool
 is_empty [] = true
 is_empty (w ∷ ws) = false
 
--- about objects that are never used, and objects without a type if the domain declares types
+-- about objects that are never used
 abbrev pub about_objects : (List ℕ → Bool) → Forms → Forms → List Warning
 about_objects is_used d p =
-    let constants = inside_of d (codes ":constants") in
-    let objects = inside_of p (codes ":objects") in
-    object_warnings Domain is_used (name_words constants)
-    ++ object_warnings Problem is_used (name_words objects)
-    ++ (if is_empty (name_words (inside_of d (codes ":types"))) then []
-    else untyped_warnings Domain (untyped_words constants) ++ untyped_warnings Problem (untyped_words objects))
+    object_warnings Domain is_used (name_words (inside_of d (codes ":constants")))
+    ++ object_warnings Problem is_used (name_words (inside_of p (codes ":objects")))
 
--- about goal literals that hold initially
-abbrev pub about_goals : Forms → Forms → List Warning
-about_goals d p =
-    let scope = scope_over (declarations_of d) (all_objects d p) in
-    goal_warnings (task_of d p).vocabulary.predicates (task_of d p).initial (goal_literals scope (inside_of p (codes ":goal")))
+-- about objects without a type, if the domain declares types
+abbrev pub about_untyped : Forms → Forms → List Warning
+about_untyped d p =
+    if is_empty (name_words (inside_of d (codes ":types"))) then []
+    else untyped_warnings Domain (untyped_words (inside_of d (codes ":constants"))) ++ untyped_warnings Problem (untyped_words (inside_of p (codes ":objects")))
 
--- all warnings about the trees of a domain and a problem
+-- about goal literals of the task that hold initially
+abbrev pub about_goals : Forms → Forms → PlanningTask → List Warning
+about_goals d p task =
+    goal_warnings task.vocabulary.predicates (contains task.initial) (goal_literals (goal_scope d task) (inside_of p (codes ":goal")))
+
+-- about the arguments in both texts
+abbrev pub about_arguments : Forms → Forms → Typing → List Warning
+about_arguments d p typing = domain_arguments typing d ++ problem_arguments typing p
+
+-- about declarations, by tests of the types, predicates, functions and terms that are used
+abbrev pub about_declarations : (List ℕ → Bool) → (List ℕ → Bool) → (List ℕ → Bool) → (List ℕ → Bool) → Forms → Forms → Typing → List Warning
+about_declarations is_used_type is_used_predicate is_used_function is_used_term d p typing =
+    about_types is_used_type d
+    ++ about_heads is_used_predicate is_used_function typing
+    ++ about_objects is_used_term d p
+    ++ about_untyped d p
+
+-- about the names of the domain and the goals
+abbrev pub about_problem : Forms → Forms → PlanningTask → List Warning
+about_problem d p task = domain_warnings (text_name d) (part p (codes ":domain")) ++ about_goals d p task
+
+-- all warnings about the trees of a domain and a problem that spell the task
+abbrev pub warnings_of : Forms → Forms → PlanningTask → List Warning
+warnings_of d p task =
+    about_arguments d p (typing_of d task)
+    ++ about_declarations (is_among (all_type_words d p)) (is_mentioned Predicate (all_mentions d p)) (is_mentioned Function (all_mentions d p)) (is_term (all_mentions d p)) d p (typing_of d task)
+    ++ about_problem d p task
+
 abbrev pub all_warnings : Forms → Forms → List Warning
-all_warnings d p =
-    domain_arguments (typing_of d p) d
-    ++ problem_arguments (typing_of d p) p
-    ++ about_types (is_among (all_type_words d p)) d
-    ++ about_heads (is_mentioned Predicate (all_mentions d p)) (is_mentioned Function (all_mentions d p)) (typing_of d p)
-    ++ about_objects (is_term (all_mentions d p)) d p
-    ++ domain_warnings (text_name d) (part p (codes ":domain"))
-    ++ about_goals d p
+all_warnings d p = warnings_of d p (task_of d p)
 
 -- the texts spell a task, and these are all warnings about them, in order
 pub record AreWarnings (domain problem : List ℕ) (warnings : List Warning) : Type 0 where

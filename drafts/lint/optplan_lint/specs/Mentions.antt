@@ -9,7 +9,7 @@ use Rattle.pddl_syntax.specs.Numbers.{number_of}
 use Rattle.pddl_terms.specs.declared.beginning.Beginning.{Beginning}
 use Rattle.pddl_terms.specs.declared.beginning.Beginning.TheVariants.{Conjunction, Negation, Equality as Equals, Increasing, Atom}
 use Rattle.pddl_terms.specs.declared.beginning.Setting.{Setting}
-use Rattle.pddl_terms.specs.declared.beginning.Setting.TheVariants.{InCondition, InEffect, InInitial}
+use Rattle.pddl_terms.specs.declared.beginning.Setting.TheVariants.{InCondition, InGoal, InEffect, InInitial}
 use Rattle.pddl_terms.specs.Beginnings.{beginning}
 use Rattle.optplan_lint.specs.declared.mentions.MentionKind.{MentionKind}
 use Rattle.optplan_lint.specs.declared.mentions.MentionKind.TheVariants.{Predicate, Function, Equality}
@@ -38,10 +38,14 @@ function_inside none = []
 function_inside (word s e t i) = mentioned Function t i ∷ []
 function_inside (group s e i f) = []
 
--- the function that the first expression mentions, with or without parentheses; a number mentions none
+-- the function that a word names; a number names none
+abbrev pub word_function : List ℕ → List Mentioned
+word_function t = if is_no_number (number_of t) then mentioned Function t none ∷ [] else []
+
+-- the function that the first expression mentions, with or without parentheses
 abbrev pub first_function : Forms → List Mentioned
 first_function none = []
-first_function (word s e t f) = if is_no_number (number_of t) then mentioned Function t none ∷ [] else []
+first_function (word s e t f) = word_function t
 first_function (group s e i f) = function_inside i
 
 -- the functions that `increase` mentions, from the expressions after it: the increased one, and the amount
@@ -54,6 +58,7 @@ increase_functions f = first_function f ++ first_function (behind f)
 abbrev pub states_value : Setting → List ℕ → Bool
 states_value InInitial t = same_text t (codes "=")
 states_value InCondition t = false
+states_value InGoal t = false
 states_value InEffect t = false
 
 abbrev pub atom_mentions : Setting → List ℕ → Forms → List Mentioned
@@ -88,9 +93,13 @@ same_kind Function Function = true
 same_kind Equality Equality = true
 same_kind k l = false
 
+-- the head `head` of a mention of the kind `own` is of this kind and has this name
+abbrev pub is_head : MentionKind → MentionKind → List ℕ → List ℕ → Bool
+is_head kind own head t = if same_kind own kind then same_text head t else false
+
 -- a head of this kind has this name
 abbrev pub is_mentioned : MentionKind → List Mentioned → List ℕ → Bool
-is_mentioned kind ms t = list_any (λ m. if same_kind m.kind kind then same_text m.head t else false) ms
+is_mentioned kind ms t = list_any (λ m. is_head kind m.kind m.head t) ms
 
 -- one of the expressions is this word
 abbrev pub has_word : Forms → List ℕ → Bool

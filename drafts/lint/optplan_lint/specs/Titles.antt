@@ -23,11 +23,15 @@ title_name (group s e i f) = first_text (behind i)
 abbrev pub text_name : Forms → List ℕ
 text_name root = title_name (behind (root_parts root))
 
+-- the warning about the name `t` at offset `s`, if it is another one
+abbrev pub stated_name_warnings : List ℕ → ℕ → List ℕ → List Warning
+stated_name_warnings name s t = warn_if (not (same_text t name)) (warning_on Problem s OtherDomain t name)
+
 -- The warning about the section `:domain` at `home`, if its first expression is another word than the domain's name. If
 -- it begins with no word, the warning is at the list in its position, or at the section.
 abbrev pub stated_domain_warnings : List ℕ → ℕ → Forms → List Warning
 stated_domain_warnings name home none = warning_on Problem home OtherDomain [] name ∷ []
-stated_domain_warnings name home (word s e t f) = warn_if (not (same_text t name)) (warning_on Problem s OtherDomain t name)
+stated_domain_warnings name home (word s e t f) = stated_name_warnings name s t
 stated_domain_warnings name home (group s e i f) = warning_on Problem s OtherDomain [] name ∷ []
 
 -- the warning about a problem's section `:domain`; a problem without one states no domain

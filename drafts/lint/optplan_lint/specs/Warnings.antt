@@ -46,6 +46,10 @@ kind_rank UntypedObject = 6
 kind_rank OtherDomain = 7
 kind_rank TrueGoal = 8
 
+-- the numbers by which warnings are sorted, the first of them first
+abbrev pub order_key : Warning → ℕ × ℕ × ℕ
+order_key w = (file_rank w.file, w.at, kind_rank w.kind)
+
 -- an earlier text; or the same text and a lower byte offset; or the same text and offset, and a lower kind
 abbrev pub precedes : Warning → Warning → Bool
 precedes v w =

@@ -1,48 +1,31 @@
 //! Goal literals that hold in the initial state.
 
-ghost use Rattle.std.specs.Prelude.{◌≡◌, ◌++◌, OnOk, IfOk, List, map};
+ghost use Rattle.std.specs.Prelude.{◌≡◌, ◌++◌, OnOk, IfOk};
 ghost use Rattle.std.specs.HashSet.{contains as is_stored};
-ghost use Rattle.sexp.specs.Forms.{Forms, before, views};
-ghost use Rattle.pddl_task.specs.Atoms.{same_atom, contains};
-ghost use Rattle.pddl_problem.specs.Goals.{Placed};
+ghost use Rattle.sexp.specs.Forms.{views, alone};
+ghost use Rattle.pddl_task.specs.Atoms.{same_atom, contains, literal_holds};
+ghost use Rattle.pddl_terms.specs.declared.beginning.Setting.{Setting};
+ghost use Rattle.pddl_effect.specs.Conditions.{conditions_in, condition_places};
+ghost use Rattle.pddl_problem.specs.Goals.{placed, first_alone, goal_literals};
 ghost use Rattle.optplan_lint.specs.TrueGoals as spec;
 
+use crate::parts::items_in;
 use crate::warning::{Found, WarningKind};
-use pddl_syntax::PlanningFile;
-use pddl_task::{GroundAtom, GroundLiteral, Task};
-use pddl_terms::{Beginning, Setting, beginning_of};
+use pddl_domain::{functions_section, predicates_section};
+use pddl_effect::{Conditions, read_condition_in};
+use pddl_names::Names;
+use pddl_syntax::{PlanningFile, Types};
+use pddl_task::{Condition, GroundAtom, GroundLiteral, Task};
+use pddl_terms::{Reader, Scope, Setting};
 use sexp::Tree;
 use std::alloc::{AllocError, Global};
 use std::collections::HashSet;
 
-/// Adds the byte offsets of the literals of a tree.
-#[cycle(offsets)]
-fn add_tree(tree: &Tree, offsets: &mut Vec<usize>) -> Result<(), AllocError>
-    ensures { OnOk result ((rest : Forms) → offsets.old.items ++ spec.literal_offsets (before tree.now rest) ≡ offsets.new.items ++ spec.literal_offsets rest) }
+/// Adds an atom to a set.
+fn add(set: &mut HashSet<GroundAtom>, atom: GroundAtom) -> Result<(), AllocError>
+    ensures { OnOk result (is_stored same_atom set.new ≡ spec.with_atom (is_stored same_atom set.old) atom) }
 {
-    let Tree::List { items, span } = tree else {
-        return Ok(());
-    };
-    match items.as_slice() {
-        [Tree::Word { text, .. }, parts @ ..] => {
-            if beginning_of(Setting::InCondition, text.as_str()) == Beginning::Conjunction {
-                return add_offsets(parts, offsets);
-            }
-            offsets.push(span.start)?;
-            Ok(())
-        }
-        _ => Ok(()),
-    }
-}
-
-/// Adds the byte offsets of the literals of trees: those of the lists that are no conjunction.
-#[cycle(offsets)]
-fn add_offsets(trees: &[Tree], offsets: &mut Vec<usize>) -> Result<(), AllocError>
-    ensures { OnOk result (offsets.new.items ≡ offsets.old.items ++ spec.literal_offsets (views trees.now)) }
-{
-    for tree in trees {
-        add_tree(tree, offsets)?;
-    }
+    set.insert(atom)?;
     Ok(())
 }
 
@@ -52,33 +35,119 @@ fn set_of(alloc: Global, atoms: &[GroundAtom]) -> Result<HashSet<GroundAtom>, Al
 {
     let mut set = HashSet::new(alloc);
     for atom in atoms {
-        set.insert(atom.try_clone(alloc)?)?;
+        add(&mut set, atom.try_clone(alloc)?)?;
     }
     Ok(set)
 }
 
-/// Adds a warning for each goal literal of the task that holds in the initial state; `goal` has the items of the
-/// section `:goal`.
-pub(crate) fn warn_of_goals(
-    alloc: Global,
-    task: &Task,
-    goal: &[Tree],
+/// Returns whether a literal holds in the state with these atoms.
+fn holds(atoms: &HashSet<GroundAtom>, literal: &GroundLiteral) -> bool
+    ensures { result ≡ literal_holds (is_stored same_atom atoms.now) literal.now }
+{
+    atoms.contains(&literal.atom) == literal.positive
+}
+
+/// Adds the warning about a goal literal at the byte offset `at`, if it holds in the state with these atoms.
+fn judge(
+    predicates: &Names,
+    atoms: &HashSet<GroundAtom>,
+    at: usize,
+    literal: &GroundLiteral,
     found: &mut Found,
 ) -> Result<(), AllocError>
-    ensures { (placed : List Placed) → map (λ l. l.literal) placed ≡ task.now.goal → map (λ l. l.at) placed ≡ spec.literal_offsets (views goal.now)
-        → OnOk result (found.new ≡ found.old ++ spec.goal_warnings task.now.vocabulary.predicates task.now.initial placed) }
+    ensures { OnOk result (found.new ≡ found.old ++ spec.goal_warning predicates.now (is_stored same_atom atoms.now) at literal.now) }
 {
-    let mut offsets = Vec::new(alloc);
-    add_offsets(goal, &mut offsets)?;
+    let predicate = predicates.name_or_empty(literal.atom.predicate);
+    found.add_if(
+        holds(atoms, literal),
+        PlanningFile::Problem,
+        at,
+        WarningKind::TrueGoal,
+        predicate,
+    )
+}
+
+/// Adds the warnings about the literals among conditions at these byte offsets.
+fn judge_all(
+    alloc: Global,
+    task: &Task,
+    places: &[usize],
+    conditions: &[Condition],
+    found: &mut Found,
+) -> Result<(), AllocError>
+    ensures { OnOk result (found.new ≡ found.old ++ spec.goal_warnings task.now.vocabulary.predicates (contains task.now.initial) (placed places.now conditions.now)) }
+{
     let initial = set_of(alloc, &task.initial)?;
-    for (literal, at) in task.goal.iter().zip(&offsets) {
-        if initial.contains(&literal.atom) == literal.positive {
-            let predicate = task
-                .vocabulary
-                .predicates
-                .name_or_empty(literal.atom.predicate);
-            found.add(PlanningFile::Problem, *at, WarningKind::TrueGoal, predicate)?;
+    for (place, condition) in places.iter().zip(conditions) {
+        if let Some(literal) = condition.literal(alloc, &[])? {
+            judge(
+                &task.vocabulary.predicates,
+                &initial,
+                *place,
+                &literal,
+                found,
+            )?;
         }
     }
     Ok(())
+}
+
+/// Returns the conditions of the section of the goal, whose items without its head are `goal`. Faults are not recorded
+/// again.
+#[tactic(auto, using(sexp::proofs::Walking::walking, pddl_problem::proofs::Steps::goal_steps))]
+fn goal_conditions(reader: &Reader, goal: &[Tree]) -> Result<Conditions, AllocError>
+    ensures conditions { IfOk result (λ c. c.conditions.items ≡ conditions_in Setting.InGoal reader.now (first_alone (views goal.now))) }
+    ensures places { IfOk result (λ c. c.places.items ≡ condition_places Setting.InGoal reader.now (first_alone (views goal.now))) }
+{
+    let mut conditions = Conditions::new(reader.alloc);
+    let mut first = None;
+    match goal {
+        [] => {}
+        [tree, ..] => read_condition_in(
+            Setting::InGoal,
+            reader,
+            tree,
+            &mut conditions,
+            &mut first,
+        )?,
+    }
+    Ok(conditions)
+}
+
+/// Adds a warning for each goal literal of the task that holds in the initial state. The items of the section of the
+/// goal without its head are `goal`, and `types` are the types of the domain.
+pub(crate) fn warn_of_goals(
+    alloc: Global,
+    task: &Task,
+    types: &Types,
+    domain: &Tree,
+    goal: &[Tree],
+    found: &mut Found,
+) -> Result<(), AllocError>
+    ensures { OnOk result (found.new ≡ found.old ++ spec.goal_warnings task.now.vocabulary.predicates (contains task.now.initial)
+        (goal_literals (spec.goal_scope (alone domain.now) task.now) (views goal.now))) }
+{
+    // Faults are not recorded again: the text has none.
+    let mut first = None;
+    let predicates = predicates_section(alloc, items_in(domain, ":predicates"), types, &mut first)?;
+    let functions = functions_section(
+        alloc,
+        items_in(domain, ":functions"),
+        types,
+        0,
+        &mut first,
+    )?;
+    let variables = Names::new(alloc);
+    let scope = Scope {
+        predicates: &predicates,
+        functions: &functions,
+        variables: &variables,
+        objects: &task.vocabulary.objects,
+    };
+    let reader = Reader {
+        alloc,
+        scope: &scope,
+    };
+    let goals = goal_conditions(&reader, goal)?;
+    judge_all(alloc, task, &goals.places, &goals.conditions, found)
 }

@@ -4,19 +4,18 @@ ghost use Rattle.std.specs.Prelude.{◌≡◌, ◌++◌, [], IfOk, IfErr, OnOk, 
 ghost use Rattle.sexp.specs.Forms.{alone};
 ghost use Rattle.pddl_task.specs.Planning.{PlanningTask};
 ghost use Rattle.pddl.specs.declared.fault.PddlFault.{PddlFault};
-ghost use Rattle.pddl_problem.specs.Goals.{goal_faults};
-ghost use Rattle.pddl.specs.Texts.{IsTree, IsTreeFault, IsTaskRefusal, SpellTask, task_of, declarations_of, scope_over, place_in, inside_of};
-ghost use Rattle.optplan_lint.specs.Mentions.{metric_mentions};
-ghost use Rattle.optplan_lint.specs.Lint.{AreWarnings, all_warnings, all_objects};
+ghost use Rattle.pddl.specs.Texts.{IsTree, IsTreeFault, IsTaskRefusal, SpellTask, task_of};
+ghost use Rattle.optplan_lint.specs.TypedWords.{words_of};
+ghost use Rattle.optplan_lint.specs.Lint.{AreWarnings, warnings_of, declared_type_words};
 
-use crate::arguments::Scope;
+use crate::arguments::warn_of_arguments;
 use crate::declared::{Declared, declarations};
 use crate::goals::warn_of_goals;
 use crate::mentions::{Mention, add_function, add_mentions, mentions_in};
 use crate::objects::{warn_of_objects, warn_of_untyped};
 use crate::parts::{first_inside, items_in, value_after};
 use crate::titles::warn_of_domain;
-use crate::typed_words::typed_words;
+use crate::typed_words::{Word, add_parameter_types, add_types, typed_words};
 use crate::types::{warn_of_heads, warn_of_supertypes, warn_of_types};
 use crate::uses::Uses;
 use crate::warning::{Found, Warning, WarningKind};
@@ -30,6 +29,25 @@ use pddl_terms::Setting;
 use sexp::{SexpFault, Tree};
 use std::alloc::{AllocError, Global};
 
+/// Returns the types that declarations name: supertypes, types of objects, and types of parameters of predicates and
+/// functions.
+#[tactic(auto, using(crate::proofs::Words::growing))]
+fn declared_types<'a>(
+    alloc: Global,
+    domain: &'a Tree,
+    problem: &'a Tree,
+) -> Result<Vec<Word<'a>>, AllocError>
+    ensures { IfOk result (λ ws. words_of ws.items ≡ declared_type_words (alone domain.now) (alone problem.now)) }
+{
+    let mut words = Vec::new(alloc);
+    add_types(alloc, items_in(domain, ":types"), &mut words)?;
+    add_types(alloc, items_in(domain, ":constants"), &mut words)?;
+    add_types(alloc, items_in(problem, ":objects"), &mut words)?;
+    add_parameter_types(alloc, items_in(domain, ":predicates"), &mut words)?;
+    add_parameter_types(alloc, items_in(domain, ":functions"), &mut words)?;
+    Ok(words)
+}
+
 /// The declarations, the uses and the warnings so far.
 #[derive(Drop)]
 struct Linting<'a> {
@@ -41,17 +59,17 @@ struct Linting<'a> {
 
 impl<'a> Linting<'a> {
     ghost use Rattle.std.specs.Prelude.{map};
-    ghost use Rattle.std.specs.List.{flat_map};
     ghost use Rattle.sexp.specs.Forms.{views};
     ghost use Rattle.pddl_names.specs.Names.{is_there};
-    ghost use Rattle.optplan_lint.specs.Mentions.{mention_of};
+    ghost use Rattle.pddl.specs.Texts.{inside_of};
+    ghost use Rattle.optplan_lint.specs.Mentions.{mention_of, metric_mentions};
     ghost use Rattle.optplan_lint.specs.TypedWords.{type_words};
     ghost use Rattle.optplan_lint.specs.Arguments.{variables_in, mention_warnings};
     ghost use Rattle.optplan_lint.specs.UsedNames.{Adds};
     ghost use Rattle.optplan_lint.specs.Lint as spec;
 
     fn new(alloc: Global, task: &'a Task, domain: &Tree) -> Result<Linting<'a>, AllocError>
-        ensures declared { IfOk result (λ l. spec.IsTypingOf (alone domain.now) task.now l.declared) }
+        ensures declared { IfOk result (λ l. l.declared ≡ spec.typing_of (alone domain.now) task.now) }
         ensures types { IfOk result (λ l. l.uses.types ≡ []) }
         ensures predicates { IfOk result (λ l. l.uses.predicates ≡ []) }
         ensures functions { IfOk result (λ l. l.uses.functions ≡ []) }
@@ -71,35 +89,21 @@ impl<'a> Linting<'a> {
     /// Adds the types that a typed list names to the uses.
     fn read_types(&mut self, items: &[Tree]) -> Result<(), AllocError>
         ensures uses { OnOk result (Adds self.old.uses self.new.uses (type_words (views items.now)) []) }
-        ensures others { OnOk result (self.new ≡ record self.old { uses = self.new.uses }) }
+        ensures found { self.new.found ≡ self.old.found }
+        ensures declared { self.new.declared ≡ self.old.declared }
     {
         let words = typed_words(self.alloc, items)?;
         self.uses.add_types(&words.types)
     }
 
-    /// Adds the types that the items `(HEAD PARAMETERS)` of a section name to the uses.
-    fn read_parameter_types(&mut self, items: &[Tree]) -> Result<(), AllocError>
-        ensures uses { OnOk result (Adds self.old.uses self.new.uses (spec.parameter_type_words (views items.now)) []) }
-        ensures others { OnOk result (self.new ≡ record self.old { uses = self.new.uses }) }
-    {
-        for tree in items {
-            if let Tree::List { items, .. } = tree {
-                self.read_types(items)?;
-            }
-        }
-        Ok(())
-    }
-
     /// Adds the types that declarations name to the uses.
-    fn read_all_types(&mut self, domain: &Tree, problem: &Tree) -> Result<(), AllocError>
+    fn read_declared_types(&mut self, domain: &Tree, problem: &Tree) -> Result<(), AllocError>
         ensures uses { OnOk result (Adds self.old.uses self.new.uses (spec.declared_type_words (alone domain.now) (alone problem.now)) []) }
-        ensures others { OnOk result (self.new ≡ record self.old { uses = self.new.uses }) }
+        ensures found { self.new.found ≡ self.old.found }
+        ensures declared { self.new.declared ≡ self.old.declared }
     {
-        self.read_types(items_in(domain, ":types"))?;
-        self.read_types(items_in(domain, ":constants"))?;
-        self.read_types(items_in(problem, ":objects"))?;
-        self.read_parameter_types(items_in(domain, ":predicates"))?;
-        self.read_parameter_types(items_in(domain, ":functions"))
+        let words = declared_types(self.alloc, domain, problem)?;
+        self.uses.add_types(&words)
     }
 
     /// Adds the warnings about the arguments of mentions, and the uses of their names.
@@ -112,28 +116,25 @@ impl<'a> Linting<'a> {
         ensures found { OnOk result (self.new.found ≡ self.old.found
             ++ mention_warnings file self.old.declared (variables_in variables.now) (map mention_of mentions.now)) }
         ensures uses { OnOk result (Adds self.old.uses self.new.uses [] (map mention_of mentions.now)) }
-        ensures declared { OnOk result (self.new.declared ≡ self.old.declared) }
+        ensures declared { self.new.declared ≡ self.old.declared }
     {
-        let scope = Scope {
-            file,
-            declared: &self.declared,
-            variables,
-        };
-        scope.add_warnings(mentions, &mut self.found)?;
+        warn_of_arguments(file, &self.declared, variables, mentions, &mut self.found)?;
         self.uses.add_mentions(mentions)
     }
 
     /// Adds the warnings about the arguments in an action, and its uses. Its items without its head are `action`.
+    #[tactic(auto, using(crate::proofs::Used::chain))]
     fn read_action(&mut self, action: &[Tree]) -> Result<(), AllocError>
         ensures found { OnOk result (self.new.found ≡ self.old.found ++ spec.action_arguments self.old.declared (views action.now)) }
         ensures uses { OnOk result (Adds self.old.uses self.new.uses (type_words (spec.parameters_in (views action.now))) (spec.action_mentions (views action.now))) }
-        ensures declared { OnOk result (self.new.declared ≡ self.old.declared) }
+        ensures declared { self.new.declared ≡ self.old.declared }
     {
         let alloc = self.alloc;
         let parameters = first_inside(value_after(action, ":parameters"));
         self.read_types(parameters)?;
         // Faults are not recorded again: the text has none.
-        let variables = parameters_list(alloc, parameters, &self.declared.types, 0, &mut None)?;
+        let mut first = None;
+        let variables = parameters_list(alloc, parameters, &self.declared.types, 0, &mut first)?;
         let precondition = value_after(action, ":precondition");
         let effect = value_after(action, ":effect");
         let mut mentions = mentions_in(alloc, Setting::InCondition, precondition)?;
@@ -142,10 +143,11 @@ impl<'a> Linting<'a> {
     }
 
     /// Adds the warnings about the arguments in the actions of a domain, and their uses.
+    #[tactic(auto, using(crate::proofs::Used::chain))]
     fn read_actions(&mut self, domain: &Tree) -> Result<(), AllocError>
         ensures found { OnOk result (self.new.found ≡ self.old.found ++ spec.domain_arguments self.old.declared (alone domain.now)) }
         ensures uses { OnOk result (Adds self.old.uses self.new.uses (spec.action_type_words (alone domain.now)) (spec.domain_mentions (alone domain.now))) }
-        ensures declared { OnOk result (self.new.declared ≡ self.old.declared) }
+        ensures declared { self.new.declared ≡ self.old.declared }
     {
         let actions = all_sections(self.alloc, sections_of(domain), ":action")?;
         for action in &actions {
@@ -157,7 +159,8 @@ impl<'a> Linting<'a> {
     /// Adds the uses of the metric.
     fn read_metric(&mut self, problem: &Tree) -> Result<(), AllocError>
         ensures uses { OnOk result (Adds self.old.uses self.new.uses [] (metric_mentions (inside_of (alone problem.now) (codes ":metric")))) }
-        ensures others { OnOk result (self.new ≡ record self.old { uses = self.new.uses }) }
+        ensures found { self.new.found ≡ self.old.found }
+        ensures declared { self.new.declared ≡ self.old.declared }
     {
         let mut mentions = Vec::new(self.alloc);
         add_function(without_first(items_in(problem, ":metric")), &mut mentions)?;
@@ -165,10 +168,11 @@ impl<'a> Linting<'a> {
     }
 
     /// Adds the warnings about the arguments in a problem, and its uses.
+    #[tactic(auto, using(crate::proofs::Used::chain))]
     fn read_problem(&mut self, problem: &Tree) -> Result<(), AllocError>
         ensures found { OnOk result (self.new.found ≡ self.old.found ++ spec.problem_arguments self.old.declared (alone problem.now)) }
         ensures uses { OnOk result (Adds self.old.uses self.new.uses [] (spec.problem_mentions (alone problem.now))) }
-        ensures declared { OnOk result (self.new.declared ≡ self.old.declared) }
+        ensures declared { self.new.declared ≡ self.old.declared }
     {
         let alloc = self.alloc;
         let variables = Parameters {
@@ -178,17 +182,31 @@ impl<'a> Linting<'a> {
         let initial = items_in(problem, ":init");
         let goal = items_in(problem, ":goal");
         let mut mentions = mentions_in(alloc, Setting::InInitial, initial)?;
-        add_mentions(goal, Setting::InCondition, &mut mentions)?;
+        add_mentions(goal, Setting::InGoal, &mut mentions)?;
         self.read_mentions(PlanningFile::Problem, &variables, &mentions)?;
         self.read_metric(problem)
+    }
+
+    /// Adds the warnings about the arguments in both texts, and their uses.
+    #[tactic(auto, using(crate::proofs::Used::chain))]
+    fn read_all(&mut self, domain: &Tree, problem: &Tree) -> Result<(), AllocError>
+        ensures found { OnOk result (self.new.found ≡ self.old.found ++ spec.about_arguments (alone domain.now) (alone problem.now) self.old.declared) }
+        ensures uses { OnOk result (Adds self.old.uses self.new.uses (spec.all_type_words (alone domain.now) (alone problem.now)) (spec.all_mentions (alone domain.now) (alone problem.now))) }
+        ensures declared { self.new.declared ≡ self.old.declared }
+    {
+        self.read_actions(domain)?;
+        self.read_problem(problem)?;
+        self.read_declared_types(domain, problem)
     }
 
     // ---- declarations
 
     /// Adds the warnings about types.
+    #[tactic(auto, using(crate::proofs::Used::joining))]
     fn warn_of_types(&mut self, domain: &Tree) -> Result<(), AllocError>
         ensures found { OnOk result (self.new.found ≡ self.old.found ++ spec.about_types (is_there self.old.uses.types) (alone domain.now)) }
-        ensures others { OnOk result (self.new ≡ record self.old { found = self.new.found }) }
+        ensures uses { self.new.uses ≡ self.old.uses }
+        ensures declared { self.new.declared ≡ self.old.declared }
     {
         let words = typed_words(self.alloc, items_in(domain, ":types"))?;
         warn_of_supertypes(self.alloc, &words.names, &words.types, &mut self.found)?;
@@ -196,45 +214,86 @@ impl<'a> Linting<'a> {
     }
 
     /// Adds the warnings about predicates and functions.
+    #[tactic(auto, using(crate::proofs::Used::joining))]
     fn warn_of_heads(&mut self) -> Result<(), AllocError>
         ensures found { OnOk result (self.new.found ≡ self.old.found
             ++ spec.about_heads (is_there self.old.uses.predicates) (is_there self.old.uses.functions) self.old.declared) }
-        ensures others { OnOk result (self.new ≡ record self.old { found = self.new.found }) }
+        ensures uses { self.new.uses ≡ self.old.uses }
+        ensures declared { self.new.declared ≡ self.old.declared }
     {
-        let uses = &self.uses;
-        let declared = &self.declared;
-        let found = &mut self.found;
         warn_of_heads(
             WarningKind::UnusedPredicate,
-            &uses.predicates,
-            &declared.predicates,
-            found,
+            &self.uses.predicates,
+            &self.declared.predicates,
+            &mut self.found,
         )?;
         warn_of_heads(
             WarningKind::UnusedFunction,
-            &uses.functions,
-            &declared.functions,
-            found,
+            &self.uses.functions,
+            &self.declared.functions,
+            &mut self.found,
         )
     }
 
-    /// Adds the warnings about constants and objects.
+    /// Adds the warnings about constants and objects that are never used.
+    #[tactic(auto, using(crate::proofs::Used::joining))]
     fn warn_of_objects(&mut self, domain: &Tree, problem: &Tree) -> Result<(), AllocError>
         ensures found { OnOk result (self.new.found ≡ self.old.found ++ spec.about_objects (is_there self.old.uses.terms) (alone domain.now) (alone problem.now)) }
-        ensures others { OnOk result (self.new ≡ record self.old { found = self.new.found }) }
+        ensures uses { self.new.uses ≡ self.old.uses }
+        ensures declared { self.new.declared ≡ self.old.declared }
     {
-        let types = typed_words(self.alloc, items_in(domain, ":types"))?;
         let constants = typed_words(self.alloc, items_in(domain, ":constants"))?;
         let objects = typed_words(self.alloc, items_in(problem, ":objects"))?;
         let used = &self.uses.terms;
-        let found = &mut self.found;
-        warn_of_objects(PlanningFile::Domain, used, &constants.names, found)?;
-        warn_of_objects(PlanningFile::Problem, used, &objects.names, found)?;
-        if !types.names.is_empty() {
-            warn_of_untyped(PlanningFile::Domain, constants.untyped(), found)?;
-            warn_of_untyped(PlanningFile::Problem, objects.untyped(), found)?;
+        warn_of_objects(PlanningFile::Domain, used, &constants.names, &mut self.found)?;
+        warn_of_objects(PlanningFile::Problem, used, &objects.names, &mut self.found)
+    }
+
+    /// Adds the warnings about constants and objects without a type.
+    #[tactic(auto, using(crate::proofs::Used::joining))]
+    fn warn_of_untyped(&mut self, domain: &Tree, problem: &Tree) -> Result<(), AllocError>
+        ensures found { OnOk result (self.new.found ≡ self.old.found ++ spec.about_untyped (alone domain.now) (alone problem.now)) }
+        ensures uses { self.new.uses ≡ self.old.uses }
+        ensures declared { self.new.declared ≡ self.old.declared }
+    {
+        let types = typed_words(self.alloc, items_in(domain, ":types"))?;
+        if types.names.is_empty() {
+            return Ok(());
         }
-        Ok(())
+        let constants = typed_words(self.alloc, items_in(domain, ":constants"))?;
+        let objects = typed_words(self.alloc, items_in(problem, ":objects"))?;
+        warn_of_untyped(PlanningFile::Domain, &constants.untyped, &mut self.found)?;
+        warn_of_untyped(PlanningFile::Problem, &objects.untyped, &mut self.found)
+    }
+
+    /// Adds the warnings about declarations.
+    #[tactic(auto, using(crate::proofs::Used::joining))]
+    fn warn_of_declarations(&mut self, domain: &Tree, problem: &Tree) -> Result<(), AllocError>
+        ensures found { OnOk result (self.new.found ≡ self.old.found
+            ++ spec.about_declarations (is_there self.old.uses.types) (is_there self.old.uses.predicates) (is_there self.old.uses.functions) (is_there self.old.uses.terms)
+                (alone domain.now) (alone problem.now) self.old.declared) }
+        ensures declared { self.new.declared ≡ self.old.declared }
+    {
+        self.warn_of_types(domain)?;
+        self.warn_of_heads()?;
+        self.warn_of_objects(domain, problem)?;
+        self.warn_of_untyped(domain, problem)
+    }
+
+    /// Adds the warnings about the name of the domain and about the goal of the task.
+    #[tactic(auto, using(crate::proofs::Used::joining))]
+    fn warn_of_problem(
+        &mut self,
+        task: &Task,
+        domain: &Tree,
+        problem: &Tree,
+    ) -> Result<(), AllocError>
+        ensures { OnOk result (self.new.found ≡ self.old.found ++ spec.about_problem (alone domain.now) (alone problem.now) task.now) }
+    {
+        warn_of_domain(domain, problem, &mut self.found)?;
+        let goal = items_in(problem, ":goal");
+        let types = &self.declared.types;
+        warn_of_goals(self.alloc, task, types, domain, goal, &mut self.found)
     }
 }
 
@@ -245,22 +304,13 @@ fn tree_warnings(
     domain: &Tree,
     problem: &Tree,
 ) -> Result<Found, AllocError>
-    requires task { task.now ≡ task_of (alone domain.now) (alone problem.now) }
-    requires goal { goal_faults (scope_over (declarations_of (alone domain.now)) (all_objects (alone domain.now) (alone problem.now)))
-        (place_in (alone problem.now) (codes ":goal")) (inside_of (alone problem.now) (codes ":goal")) ≡ [] }
-    ensures { IfOk result (λ f. f ≡ all_warnings (alone domain.now) (alone problem.now)) }
+    ensures { IfOk result (λ f. f ≡ warnings_of (alone domain.now) (alone problem.now) task.now) }
 {
     let mut linting = Linting::new(alloc, task, domain)?;
-    linting.read_actions(domain)?;
-    linting.read_problem(problem)?;
-    linting.read_all_types(domain, problem)?;
-    linting.warn_of_types(domain)?;
-    linting.warn_of_heads()?;
-    linting.warn_of_objects(domain, problem)?;
-    let mut found = linting.found;
-    warn_of_domain(domain, problem, &mut found)?;
-    warn_of_goals(alloc, task, items_in(problem, ":goal"), &mut found)?;
-    Ok(found)
+    linting.read_all(domain, problem)?;
+    linting.warn_of_declarations(domain, problem)?;
+    linting.warn_of_problem(task, domain, problem)?;
+    Ok(linting.found)
 }
 
 /// Reads the tree of a text. Fails with the first fault, or if allocation fails.
@@ -273,6 +323,25 @@ fn tree_of(alloc: Global, file: PlanningFile, bytes: &[u8]) -> Result<Tree, Pddl
         Err(SexpFault::OutOfMemory) => Err(PddlFault::OutOfMemory),
         Err(fault) => Err(PddlFault::Tree(file, fault)),
     }
+}
+
+/// Returns the warnings about two texts that spell the task, in order. Fails only if allocation fails.
+#[tactic(auto, using(crate::proofs::Whole::refusals))]
+fn ordered_warnings(
+    alloc: Global,
+    task: &Task,
+    domain: &[u8],
+    problem: &[u8],
+) -> Result<Vec<Warning>, PddlFault>
+    requires { SpellTask domain.now problem.now task.now }
+    ensures found { IfOk result (λ ws. AreWarnings domain.now problem.now ws.items) }
+    ensures fault { IfErr result (λ e. IsTaskRefusal domain.now problem.now e) }
+{
+    let domain_tree = tree_of(alloc, PlanningFile::Domain, domain)?;
+    let problem_tree = tree_of(alloc, PlanningFile::Problem, problem)?;
+    let found = tree_warnings(alloc, task, &domain_tree, &problem_tree)?;
+    let warnings = found.in_order()?;
+    Ok(warnings)
 }
 
 /// Returns the warnings about the texts of a domain and a problem, in bytes, in order: the domain's first, then by byte
@@ -288,9 +357,8 @@ pub fn warnings(alloc: Global, domain: &[u8], problem: &[u8]) -> Result<Vec<Warn
     // An error is the first fault, or that allocation failed.
     ensures fault { IfErr result (λ e. IsTaskRefusal domain.now problem.now e) }
 {
-    let task = read_task(alloc, domain, problem)?;
-    let domain = tree_of(alloc, PlanningFile::Domain, domain)?;
-    let problem = tree_of(alloc, PlanningFile::Problem, problem)?;
-    let found = tree_warnings(alloc, &task, &domain, &problem)?;
-    Ok(found.in_order()?)
+    match read_task(alloc, domain, problem) {
+        Err(fault) => Err(fault),
+        Ok(task) => ordered_warnings(alloc, &task, domain, problem),
+    }
 }

@@ -1,8 +1,8 @@
 //! Objects that are never used, and objects without a type.
 
-ghost use Rattle.std.specs.Prelude.{◌≡◌, ◌++◌, OnOk, map};
+ghost use Rattle.std.specs.Prelude.{◌≡◌, ◌++◌, OnOk};
 ghost use Rattle.pddl_names.specs.Names.{is_there};
-ghost use Rattle.optplan_lint.specs.TypedWords.{word_of};
+ghost use Rattle.optplan_lint.specs.TypedWords.{words_of};
 ghost use Rattle.optplan_lint.specs.Unused as spec;
 
 use crate::typed_words::Word;
@@ -18,12 +18,11 @@ pub(crate) fn warn_of_objects(
     declared: &[Word<'_>],
     found: &mut Found,
 ) -> Result<(), AllocError>
-    ensures { OnOk result (found.new ≡ found.old ++ spec.object_warnings file (is_there used.now) (map word_of declared.now)) }
+    ensures { OnOk result (found.new ≡ found.old ++ spec.object_warnings file (is_there used.now) (words_of declared.now)) }
 {
     for word in declared {
-        if !used.contains(word.text) {
-            found.add(file, word.at, WarningKind::UnusedObject, word.text)?;
-        }
+        let unused = !used.contains(word.text);
+        found.add_if(unused, file, word.at, WarningKind::UnusedObject, word.text)?;
     }
     Ok(())
 }
@@ -34,10 +33,10 @@ pub(crate) fn warn_of_untyped(
     untyped: &[Word<'_>],
     found: &mut Found,
 ) -> Result<(), AllocError>
-    ensures { OnOk result (found.new ≡ found.old ++ spec.untyped_warnings file (map word_of untyped.now)) }
+    ensures { OnOk result (found.new ≡ found.old ++ spec.untyped_warnings file (words_of untyped.now)) }
 {
     for word in untyped {
-        found.add(file, word.at, WarningKind::UntypedObject, word.text)?;
+        found.add_if(true, file, word.at, WarningKind::UntypedObject, word.text)?;
     }
     Ok(())
 }

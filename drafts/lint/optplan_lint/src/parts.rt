@@ -21,6 +21,7 @@ pub(crate) fn items_in<'a>(root: &'a Tree, name: &str) -> &'a [Tree]
 }
 
 /// Returns whether the tree is this word.
+#[tactic(auto, using(sexp::proofs::Walking::walking))]
 fn is_word(tree: &Tree, wanted: &str) -> bool
     ensures { (rest : Forms) → result ≡ has_head wanted.now (before tree.now rest) }
 {
@@ -31,16 +32,15 @@ fn is_word(tree: &Tree, wanted: &str) -> bool
 }
 
 /// Returns the first item alone, or no items if there are none.
+#[tactic(auto, using(sexp::proofs::Walking::walking, pddl_problem::proofs::Steps::goal_steps))]
 fn first_alone(items: &[Tree]) -> &[Tree]
     ensures { views result.now ≡ first_alone (views items.now) }
 {
-    match items {
-        [] => &[],
-        [..] => &items[..1],
-    }
+    if items.is_empty() { &[] } else { &items[..1] }
 }
 
 /// Returns the item after a keyword of an action, alone, or no items if the action lacks the keyword.
+#[tactic(auto, using(sexp::proofs::Walking::walking, crate::proofs::Keywords::keywords))]
 pub(crate) fn value_after<'a>(action: &'a [Tree], keyword: &str) -> &'a [Tree]
     ensures { views result.now ≡ value_after keyword.now (views action.now) }
 {
@@ -53,11 +53,15 @@ pub(crate) fn value_after<'a>(action: &'a [Tree], keyword: &str) -> &'a [Tree]
 }
 
 /// Returns the items of the first item, or no items if that is no list.
+#[tactic(auto, using(sexp::proofs::Walking::walking))]
 pub(crate) fn first_inside(items: &[Tree]) -> &[Tree]
     ensures { views result.now ≡ root_parts (views items.now) }
 {
     match items {
-        [Tree::List { items, .. }, ..] => items,
-        _ => &[],
+        [] => &[],
+        [head, ..] => match head {
+            Tree::Word { .. } => &[],
+            Tree::List { items, .. } => items,
+        },
     }
 }

@@ -1,6 +1,7 @@
 //! Declared predicates and functions with the types of their parameters.
 
-ghost use Rattle.std.specs.Prelude.{◌≡◌, IfOk, OnOk};
+ghost use Rattle.std.specs.Prelude.{◌≡◌, [], IfOk, OnOk, slice_get};
+ghost use Rattle.std.specs.Option.{option_map_or};
 ghost use Rattle.sexp.specs.Forms.{Forms, before, views};
 ghost use Rattle.pddl_syntax.specs.Parameters.{parameter_types};
 ghost use Rattle.optplan_lint.specs.Signatures as spec;
@@ -76,17 +77,31 @@ impl Signatures {
     }
 
     /// Adds the head of an item `(HEAD PARAMETERS)`.
+    #[tactic(auto, using(sexp::proofs::Walking::walking))]
     fn read(&mut self, alloc: Global, tree: &Tree, types: &Types) -> Result<(), AllocError>
         ensures { OnOk result ((rest : Forms) → spec.signatures_with types.now.names self.old (before tree.now rest) ≡ spec.signatures_with types.now.names self.new rest) }
     {
-        let Tree::List { items, .. } = tree else {
-            return Ok(());
-        };
-        match items.as_slice() {
-            [Tree::Word { text, span }, parameters @ ..] => {
-                self.add(alloc, text.as_str(), span.start, parameters, types)
-            }
-            _ => Ok(()),
+        match tree {
+            Tree::Word { .. } => Ok(()),
+            Tree::List { items, .. } => match items.as_slice() {
+                [] => Ok(()),
+                [head, parameters @ ..] => match head {
+                    Tree::Word { text, span } => {
+                        self.add(alloc, text.as_str(), span.start, parameters, types)
+                    }
+                    Tree::List { .. } => Ok(()),
+                },
+            },
+        }
+    }
+
+    /// Returns the types of the parameters of the head with this number; none if there is no such head.
+    fn types_at(&self, number: usize) -> &[usize]
+        ensures { result.now ≡ option_map_or (λ s. s.types) (slice_get self.now.items number) [] }
+    {
+        match self.items.get(number) {
+            Some(signature) => &signature.types,
+            None => &[],
         }
     }
 
@@ -94,17 +109,15 @@ impl Signatures {
     pub fn types_of(&self, head: &str) -> &[usize]
         ensures { result.now ≡ spec.types_of_head self.now head.now }
     {
-        let Some(number) = self.names.place_of(head) else {
-            return &[];
-        };
-        match self.items.get(number) {
-            Some(signature) => &signature.types,
+        match self.names.place_of(head) {
+            Some(number) => self.types_at(number),
             None => &[],
         }
     }
 }
 
 /// Returns the heads that the items of a section declare.
+#[tactic(auto, using(sexp::proofs::Walking::walking))]
 pub(crate) fn read_signatures(
     alloc: Global,
     items: &[Tree],

@@ -1,10 +1,11 @@
 //! The names that texts use.
 
-ghost use Rattle.std.specs.Prelude.{◌≡◌, ◌||◌, OnOk, ℕ, List, [], map};
+ghost use Rattle.std.specs.Prelude.{◌≡◌, ◌||◌, OnOk, ℕ, List, [], ◌∷◌, map};
 ghost use Rattle.pddl_names.specs.Names.{is_there};
-ghost use Rattle.sexp.specs.Forms.{views};
-ghost use Rattle.optplan_lint.specs.Mentions.{mention_of, has_word};
-ghost use Rattle.optplan_lint.specs.TypedWords.{word_of};
+ghost use Rattle.sexp.specs.Forms.{Forms, before, views};
+ghost use Rattle.optplan_lint.specs.declared.mentions.MentionKind.{MentionKind};
+ghost use Rattle.optplan_lint.specs.Mentions.{mention_of, has_word, is_head};
+ghost use Rattle.optplan_lint.specs.TypedWords.{words_of};
 ghost use Rattle.optplan_lint.specs.UsedNames.{Adds};
 
 use crate::mentions::{Mention, MentionKind};
@@ -43,8 +44,9 @@ impl Uses {
     }
 
     /// Adds types that are named after hyphens.
+    #[tactic(auto, using(crate::proofs::Used::using))]
     pub fn add_types(&mut self, words: &[Word<'_>]) -> Result<(), AllocError>
-        ensures { OnOk result (Adds self.old self.new (map word_of words.now) []) }
+        ensures { OnOk result (Adds self.old self.new (words_of words.now) []) }
     {
         for word in words {
             self.types.add(self.alloc, word.text)?;
@@ -52,40 +54,74 @@ impl Uses {
         Ok(())
     }
 
-    /// Adds the words among arguments.
-    fn add_terms(&mut self, terms: &[Tree]) -> Result<(), AllocError>
-        ensures terms { OnOk result ((t : List ℕ) → is_there self.new.terms t ≡ (is_there self.old.terms t || has_word (views terms.now) t)) }
-        ensures others { OnOk result (self.new ≡ record self.old { terms = self.new.terms }) }
+    /// Adds an argument, if it is a word.
+    #[tactic(auto, using(sexp::proofs::Walking::walking, crate::proofs::Used::using))]
+    fn add_term(&mut self, term: &Tree) -> Result<(), AllocError>
+        ensures types { self.new.types ≡ self.old.types }
+        ensures predicates { self.new.predicates ≡ self.old.predicates }
+        ensures functions { self.new.functions ≡ self.old.functions }
+        ensures terms { OnOk result ((rest : Forms) (t : List ℕ) → (is_there self.old.terms t || has_word (before term.now rest) t) ≡ (is_there self.new.terms t || has_word rest t)) }
     {
-        for tree in terms {
-            if let Tree::Word { text, .. } = tree {
+        match term {
+            Tree::Word { text, .. } => {
                 self.terms.add(self.alloc, text.as_str())?;
+                Ok(())
             }
+            Tree::List { .. } => Ok(()),
+        }
+    }
+
+    /// Adds the words among arguments.
+    #[tactic(auto, using(sexp::proofs::Walking::walking, crate::proofs::Used::using))]
+    fn add_terms(&mut self, terms: &[Tree]) -> Result<(), AllocError>
+        ensures types { self.new.types ≡ self.old.types }
+        ensures predicates { self.new.predicates ≡ self.old.predicates }
+        ensures functions { self.new.functions ≡ self.old.functions }
+        ensures terms { OnOk result ((t : List ℕ) → is_there self.new.terms t ≡ (is_there self.old.terms t || has_word (views terms.now) t)) }
+    {
+        for term in terms {
+            self.add_term(term)?;
         }
         Ok(())
     }
 
     /// Adds the head of a mention.
-    fn add_head(&mut self, mention: Mention<'_>) -> Result<(), AllocError> {
-        match mention.kind {
+    #[tactic(auto, using(crate::proofs::Used::using))]
+    fn add_head(&mut self, kind: MentionKind, head: &str) -> Result<(), AllocError>
+        ensures types { self.new.types ≡ self.old.types }
+        ensures predicates { OnOk result ((t : List ℕ) → is_there self.new.predicates t ≡ (is_there self.old.predicates t || is_head MentionKind.Predicate kind head.now t)) }
+        ensures functions { OnOk result ((t : List ℕ) → is_there self.new.functions t ≡ (is_there self.old.functions t || is_head MentionKind.Function kind head.now t)) }
+        ensures terms { self.new.terms ≡ self.old.terms }
+    {
+        match kind {
             MentionKind::Predicate => {
-                self.predicates.add(self.alloc, mention.head)?;
+                self.predicates.add(self.alloc, head)?;
+                Ok(())
             }
             MentionKind::Function => {
-                self.functions.add(self.alloc, mention.head)?;
+                self.functions.add(self.alloc, head)?;
+                Ok(())
             }
-            MentionKind::Equality => {}
+            MentionKind::Equality => Ok(()),
         }
-        Ok(())
+    }
+
+    /// Adds the head and the arguments of a mention.
+    #[tactic(auto, using(crate::proofs::Used::using))]
+    fn add_mention(&mut self, mention: &Mention<'_>) -> Result<(), AllocError>
+        ensures { OnOk result (Adds self.old self.new [] (mention_of mention.now ∷ [])) }
+    {
+        self.add_head(mention.kind, mention.head)?;
+        self.add_terms(mention.terms)
     }
 
     /// Adds the heads and the arguments of mentions.
+    #[tactic(auto, using(crate::proofs::Used::using))]
     pub fn add_mentions(&mut self, mentions: &[Mention<'_>]) -> Result<(), AllocError>
         ensures { OnOk result (Adds self.old self.new [] (map mention_of mentions.now)) }
     {
         for mention in mentions {
-            self.add_head(*mention)?;
-            self.add_terms(mention.terms)?;
+            self.add_mention(mention)?;
         }
         Ok(())
     }

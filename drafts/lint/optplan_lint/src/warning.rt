@@ -1,7 +1,7 @@
 //! Warnings about the texts of a domain and a problem, and their order.
 
 ghost use Rattle.std.specs.Prelude.{◌≡◌, ◌++◌, ◌∷◌, [], OnOk, IfOk, IsPermutation};
-ghost use Rattle.optplan_lint.specs.Warnings.{warning_on, file_rank, kind_rank, IsInOrder};
+ghost use Rattle.optplan_lint.specs.Warnings.{warning, warning_on, warn_if, file_rank, kind_rank, order_key, IsInOrder};
 
 use pddl_syntax::PlanningFile;
 use std::alloc::{AllocError, Global};
@@ -87,6 +87,17 @@ fn kind_rank(kind: WarningKind) -> u8
     }
 }
 
+/// Returns the numbers by which warnings are sorted: that of the text, the byte offset, and that of the kind.
+fn order_key(warning: &Warning) -> (u8, usize, u8)
+    ensures { result ≡ order_key warning.now }
+{
+    (
+        file_rank(warning.file),
+        warning.at,
+        kind_rank(warning.kind),
+    )
+}
+
 /// The warnings found so far.
 ///
 /// In contracts its value is the list of them, in the order in which they were added.
@@ -138,17 +149,22 @@ impl Found {
         Ok(())
     }
 
-    /// Adds a warning with one word.
-    pub fn add(
+    /// Adds a warning with one word, if the condition holds.
+    pub fn add_if(
         &mut self,
+        condition: bool,
         file: PlanningFile,
         at: usize,
         kind: WarningKind,
         word: &str,
     ) -> Result<(), AllocError>
-        ensures { OnOk result (self.new ≡ self.old ++ warning_on file at kind word.now [] ∷ []) }
+        ensures { OnOk result (self.new ≡ self.old ++ warn_if condition (warning file at kind word.now)) }
     {
-        self.add_on(file, at, kind, word, "")
+        if condition {
+            self.add_on(file, at, kind, word, "")
+        } else {
+            Ok(())
+        }
     }
 
     /// Returns the warnings in order: by text, by byte offset, by kind. Takes the time to sort them.
@@ -157,9 +173,7 @@ impl Found {
         ensures order { IfOk result (λ ws. IsInOrder ws.items) }
     {
         let mut warnings = self.warnings;
-        warnings.sort_by_key(|warning| {
-            (file_rank(warning.file), warning.at, kind_rank(warning.kind))
-        })?;
+        warnings.sort_by_key(|warning| order_key(warning))?;
         Ok(warnings)
     }
 }
