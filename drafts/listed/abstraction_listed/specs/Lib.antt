@@ -1,0 +1,3 @@
+pub mod Affecting
+pub mod AffectingLaws
+pub mod Entries

@@ -1,0 +1,2 @@
+pub mod ValueSums
+pub mod ValueSumLaws
