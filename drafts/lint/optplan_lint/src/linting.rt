@@ -325,7 +325,7 @@ fn tree_of(alloc: Global, file: PlanningFile, bytes: &[u8]) -> Result<Tree, Pddl
     }
 }
 
-/// Returns the warnings about two texts that spell the task, in order. Fails only if allocation fails.
+/// Returns the warnings about two texts that spell the task, in order.
 #[tactic(auto, using(crate::proofs::Whole::refusals))]
 fn ordered_warnings(
     alloc: Global,
