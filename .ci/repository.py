@@ -113,11 +113,19 @@ class Repository:
 
 
 def text_of(path):
-    """Returns the lines of a file that are neither blank nor comments."""
-    mark = COMMENTS.get(os.path.splitext(path)[1])
+    """Returns the text of a file, of sources without blank lines and lines that are comments. Code counts as the same
+    wherever its lines are broken."""
+    kind = os.path.splitext(path)[1]
+    mark = COMMENTS.get(kind)
     with open(path, "rb") as file:
-        lines = file.read().split(b"\n")
-    return lines if mark is None else [it for it in lines if it.strip() and not it.strip().startswith(mark)]
+        text = file.read()
+    if mark is None:
+        return text
+    lines = [it for it in text.split(b"\n") if it.strip() and not it.strip().startswith(mark)]
+    if kind != ".rt" or any(it.count(b'"') % 2 for it in lines):
+        # Proofs stay as they are, and so does code in which a text in quotes may have an end of line.
+        return b"\n".join(lines)
+    return b"".join(it.strip() + (b"\n" if mark in it else b" ") for it in lines)
 
 
 @functools.lru_cache(maxsize=None)
