@@ -77,7 +77,8 @@ fn read_types(
 ) -> Result<(), AllocError>
     ensures names { OnOk result (types.new.names ≡ spec.types_of (alone root.now)) }
     ensures supertypes { OnOk result (types.new.supertypes.items ≡ spec.supertypes_of (alone root.now)) }
-    ensures faults { OnOk result (first.new ≡ first_of first.old (types_faults (place_in (alone root.now) (codes ":types")) (inside_of (alone root.now) (codes ":types")))) }
+    ensures faults { OnOk result (first.new
+        ≡ first_of first.old (types_faults (place_in (alone root.now) (codes ":types")) (inside_of (alone root.now) (codes ":types")))) }
 {
     let section = part_of(root, ":types");
     *types = types_section(alloc, section.items, section.at, first)?;
@@ -87,8 +88,10 @@ fn read_types(
 fn types_pass(alloc: Global, root: &Tree, types: &mut Types) -> Result<(), PddlFault>
     ensures names { OnOk result (types.new.names ≡ spec.types_of (alone root.now)) }
     ensures supertypes { OnOk result (types.new.supertypes.items ≡ spec.supertypes_of (alone root.now)) }
-    ensures clean { OnOk result (first_of None (types_faults (place_in (alone root.now) (codes ":types")) (inside_of (alone root.now) (codes ":types"))) ≡ None) }
-    ensures fault { IfErr result (λ e. Fails e (pass DomainFile (types_faults (place_in (alone root.now) (codes ":types")) (inside_of (alone root.now) (codes ":types"))))) }
+    ensures clean { OnOk result
+        (first_of None (types_faults (place_in (alone root.now) (codes ":types")) (inside_of (alone root.now) (codes ":types"))) ≡ None) }
+    ensures fault { IfErr result
+        (λ e. Fails e (pass DomainFile (types_faults (place_in (alone root.now) (codes ":types")) (inside_of (alone root.now) (codes ":types"))))) }
 {
     let mut first = None;
     read_types(alloc, root, types, &mut first)?;
@@ -104,8 +107,12 @@ fn constants_pass(
     requires known { types.now.names ≡ spec.types_of (alone root.now) }
     requires none { objects.old ≡ no_objects }
     ensures objects { OnOk result (objects.new ≡ spec.constants_of (alone root.now)) }
-    ensures clean { OnOk result (first_of None (objects_faults (spec.types_of (alone root.now)) no_objects (place_in (alone root.now) (codes ":constants")) (inside_of (alone root.now) (codes ":constants"))) ≡ None) }
-    ensures fault { IfErr result (λ e. Fails e (pass DomainFile (objects_faults (spec.types_of (alone root.now)) no_objects (place_in (alone root.now) (codes ":constants")) (inside_of (alone root.now) (codes ":constants"))))) }
+    ensures clean { OnOk result
+        (first_of None (objects_faults (spec.types_of (alone root.now)) no_objects
+        (place_in (alone root.now) (codes ":constants")) (inside_of (alone root.now) (codes ":constants"))) ≡ None) }
+    ensures fault { IfErr result
+        (λ e. Fails e (pass DomainFile (objects_faults (spec.types_of (alone root.now)) no_objects
+        (place_in (alone root.now) (codes ":constants")) (inside_of (alone root.now) (codes ":constants"))))) }
 {
     let mut first = None;
     let section = part_of(root, ":constants");
@@ -121,8 +128,11 @@ fn predicates_pass(
 ) -> Result<(), PddlFault>
     requires { types.now.names ≡ spec.types_of (alone root.now) }
     ensures heads { OnOk result (heads.new ≡ spec.predicates_of (alone root.now)) }
-    ensures clean { OnOk result (first_of None (predicates_faults (is_there (spec.types_of (alone root.now))) no_heads 0 (inside_of (alone root.now) (codes ":predicates"))) ≡ None) }
-    ensures fault { IfErr result (λ e. Fails e (pass DomainFile (predicates_faults (is_there (spec.types_of (alone root.now))) no_heads 0 (inside_of (alone root.now) (codes ":predicates"))))) }
+    ensures clean { OnOk result
+        (first_of None (predicates_faults (is_there (spec.types_of (alone root.now))) no_heads 0 (inside_of (alone root.now) (codes ":predicates"))) ≡ None) }
+    ensures fault { IfErr result
+        (λ e. Fails e (pass DomainFile
+        (predicates_faults (is_there (spec.types_of (alone root.now))) no_heads 0 (inside_of (alone root.now) (codes ":predicates"))))) }
 {
     let mut first = None;
     let section = part_of(root, ":predicates");
@@ -138,8 +148,12 @@ fn functions_pass(
 ) -> Result<(), PddlFault>
     requires { types.now.names ≡ spec.types_of (alone root.now) }
     ensures heads { OnOk result (heads.new ≡ spec.functions_of (alone root.now)) }
-    ensures clean { OnOk result (first_of None (functions_faults (is_there (spec.types_of (alone root.now))) (place_in (alone root.now) (codes ":functions")) true no_heads 0 (inside_of (alone root.now) (codes ":functions"))) ≡ None) }
-    ensures fault { IfErr result (λ e. Fails e (pass DomainFile (functions_faults (is_there (spec.types_of (alone root.now))) (place_in (alone root.now) (codes ":functions")) true no_heads 0 (inside_of (alone root.now) (codes ":functions"))))) }
+    ensures clean { OnOk result
+        (first_of None (functions_faults (is_there (spec.types_of (alone root.now))) (place_in (alone root.now) (codes ":functions"))
+        true no_heads 0 (inside_of (alone root.now) (codes ":functions"))) ≡ None) }
+    ensures fault { IfErr result
+        (λ e. Fails e (pass DomainFile (functions_faults (is_there (spec.types_of (alone root.now)))
+        (place_in (alone root.now) (codes ":functions")) true no_heads 0 (inside_of (alone root.now) (codes ":functions"))))) }
 {
     let mut first = None;
     let section = part_of(root, ":functions");
@@ -175,7 +189,8 @@ fn actions_pass(
     ensures names { OnOk result (actions.new.names ≡ spec.schema_names_of (alone root.now)) }
     ensures places { OnOk result (actions.new.places.items ≡ spec.places_of (alone root.now)) }
     ensures clean { OnOk result (first_of None (meaning.actions_faults (spec.declarations_of (alone root.now)) (spec.actions_of (alone root.now))) ≡ None) }
-    ensures fault { IfErr result (λ e. Fails e (pass DomainFile (meaning.actions_faults (spec.declarations_of (alone root.now)) (spec.actions_of (alone root.now))))) }
+    ensures fault { IfErr result
+        (λ e. Fails e (pass DomainFile (meaning.actions_faults (spec.declarations_of (alone root.now)) (spec.actions_of (alone root.now))))) }
 {
     let mut first = None;
     read_all_actions(alloc, root, declarations, actions, &mut first)?;

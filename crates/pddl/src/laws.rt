@@ -12,12 +12,14 @@ pub fn one_task()
 
 /// Proves that texts that spell a task are not refused, unless allocation fails.
 pub fn spelled_not_refused()
-    ensures { (domain problem : List ℕ) (t : PlanningTask) (e : PddlFault) → SpellTask domain problem t → IsTaskRefusal domain problem e → e ≡ PddlFault.OutOfMemory }
+    ensures { (domain problem : List ℕ) (t : PlanningTask) (e : PddlFault) → SpellTask domain problem t →
+        IsTaskRefusal domain problem e → e ≡ PddlFault.OutOfMemory }
 {}
 
 /// Proves that two texts spell a task or have a first fault.
 pub fn spelled_or_refused()
-    ensures { (domain problem : List ℕ) → ((t : PlanningTask) × SpellTask domain problem t) ⊎ ((e : PddlFault) × (e ≢ PddlFault.OutOfMemory) × IsTaskRefusal domain problem e) }
+    ensures { (domain problem : List ℕ) →
+        ((t : PlanningTask) × SpellTask domain problem t) ⊎ ((e : PddlFault) × (e ≢ PddlFault.OutOfMemory) × IsTaskRefusal domain problem e) }
 {}
 
 /// Proves that two texts have at most one first fault.

@@ -55,8 +55,12 @@ fn objects_pass(
     objects: &mut Objects,
 ) -> Result<(), PddlFault>
     ensures objects { OnOk result (objects.new ≡ objects_with types.now.names objects.old (spec.declared_in (alone root.now) (codes ":objects"))) }
-    ensures clean { OnOk result (first_of None (objects_faults types.now.names objects.old (place_in (alone root.now) (codes ":objects")) (inside_of (alone root.now) (codes ":objects"))) ≡ None) }
-    ensures fault { IfErr result (λ e. Fails e (pass ProblemFile (objects_faults types.now.names objects.old (place_in (alone root.now) (codes ":objects")) (inside_of (alone root.now) (codes ":objects"))))) }
+    ensures clean { OnOk result
+        (first_of None (objects_faults types.now.names objects.old (place_in (alone root.now) (codes ":objects"))
+        (inside_of (alone root.now) (codes ":objects"))) ≡ None) }
+    ensures fault { IfErr result
+        (λ e. Fails e (pass ProblemFile
+        (objects_faults types.now.names objects.old (place_in (alone root.now) (codes ":objects")) (inside_of (alone root.now) (codes ":objects"))))) }
 {
     let mut first = None;
     let section = part_of(root, ":objects");
@@ -105,8 +109,10 @@ fn goal_pass(
     goal: &mut Vec<GroundLiteral>,
 ) -> Result<(), PddlFault>
     ensures literals { OnOk result (goal.new.items ≡ spec.goal_of scope.now (alone root.now)) }
-    ensures clean { OnOk result (first_of None (goal_faults scope.now (place_in (alone root.now) (codes ":goal")) (inside_of (alone root.now) (codes ":goal"))) ≡ None) }
-    ensures fault { IfErr result (λ e. Fails e (pass ProblemFile (goal_faults scope.now (place_in (alone root.now) (codes ":goal")) (inside_of (alone root.now) (codes ":goal"))))) }
+    ensures clean { OnOk result
+        (first_of None (goal_faults scope.now (place_in (alone root.now) (codes ":goal")) (inside_of (alone root.now) (codes ":goal"))) ≡ None) }
+    ensures fault { IfErr result
+        (λ e. Fails e (pass ProblemFile (goal_faults scope.now (place_in (alone root.now) (codes ":goal")) (inside_of (alone root.now) (codes ":goal"))))) }
 {
     let mut first = None;
     let section = part_of(root, ":goal");
@@ -152,9 +158,14 @@ pub fn read_problem(
 ) -> Result<(), PddlFault>
     requires { variables.now ≡ [] }
     ensures objects { OnOk result (objects.new ≡ spec.objects_of declarations.now objects.old (alone root.now)) }
-    ensures initial { OnOk result (problem.new.initial.items ≡ initial_atoms (spec.scope_over declarations.now (spec.objects_of declarations.now objects.old (alone root.now))) (inside_of (alone root.now) (codes ":init"))) }
-    ensures values { OnOk result (values_of problem.new.values.entries ≡ stated_values (spec.scope_over declarations.now (spec.objects_of declarations.now objects.old (alone root.now))) [] (inside_of (alone root.now) (codes ":init"))) }
-    ensures goal { OnOk result (problem.new.goal.items ≡ spec.goal_of (spec.scope_over declarations.now (spec.objects_of declarations.now objects.old (alone root.now))) (alone root.now)) }
+    ensures initial { OnOk result (problem.new.initial.items
+        ≡ initial_atoms (spec.scope_over declarations.now (spec.objects_of declarations.now objects.old (alone root.now)))
+        (inside_of (alone root.now) (codes ":init"))) }
+    ensures values { OnOk result (values_of problem.new.values.entries
+        ≡ stated_values (spec.scope_over declarations.now (spec.objects_of declarations.now objects.old (alone root.now))) []
+        (inside_of (alone root.now) (codes ":init"))) }
+    ensures goal { OnOk result (problem.new.goal.items
+        ≡ spec.goal_of (spec.scope_over declarations.now (spec.objects_of declarations.now objects.old (alone root.now))) (alone root.now)) }
     ensures metric { OnOk result (problem.new.metric ≡ spec.has_metric (alone root.now)) }
     ensures clean { OnOk result (first_pass (spec.stating_passes declarations.now objects.old (alone root.now)) ≡ None) }
     ensures fault { IfErr result (λ e. AllFail e (spec.stating_passes declarations.now objects.old (alone root.now))) }
@@ -182,7 +193,9 @@ fn read_sums(
     first: &mut Option<Fault>,
 ) -> Result<(), AllocError>
     requires { length actions.now.schemas.items ≡ length actions.now.places.items }
-    ensures { OnOk result (first.new ≡ first_of first.old (spec.sums_pass problem.now.metric (values_of problem.now.values.entries) actions.now.schemas.items actions.now.places.items).faults) }
+    ensures { OnOk result (first.new
+        ≡ first_of first.old
+        (spec.sums_pass problem.now.metric (values_of problem.now.values.entries) actions.now.schemas.items actions.now.places.items).faults) }
 {
     if problem.metric {
         blame_sums(
@@ -200,8 +213,11 @@ fn read_sums(
 /// if there is a metric, or if allocation fails.
 fn sums_pass(alloc: Global, problem: &Problem, actions: &Actions) -> Result<(), PddlFault>
     requires { length actions.now.schemas.items ≡ length actions.now.places.items }
-    ensures clean { OnOk result (first_of None (spec.sums_pass problem.now.metric (values_of problem.now.values.entries) actions.now.schemas.items actions.now.places.items).faults ≡ None) }
-    ensures fault { IfErr result (λ e. Fails e (spec.sums_pass problem.now.metric (values_of problem.now.values.entries) actions.now.schemas.items actions.now.places.items)) }
+    ensures clean { OnOk result
+        (first_of None (spec.sums_pass problem.now.metric (values_of problem.now.values.entries)
+        actions.now.schemas.items actions.now.places.items).faults ≡ None) }
+    ensures fault { IfErr result
+        (λ e. Fails e (spec.sums_pass problem.now.metric (values_of problem.now.values.entries) actions.now.schemas.items actions.now.places.items)) }
 {
     let mut first = None;
     read_sums(alloc, problem, actions, &mut first)?;
@@ -220,11 +236,18 @@ pub fn with_problem(
 ) -> Result<(), PddlFault>
     requires no_variables { variables.now ≡ [] }
     requires places { length domain.old.actions.schemas.items ≡ length domain.old.actions.places.items }
-    ensures task { OnOk result (task_in domain.new problem.new ≡ spec.task_with domain.old.declarations domain.old.objects domain.old.actions.schemas.items domain.old.actions.names (alone root.now)) }
+    ensures task { OnOk result (task_in domain.new problem.new
+        ≡ spec.task_with domain.old.declarations domain.old.objects domain.old.actions.schemas.items domain.old.actions.names (alone root.now)) }
     ensures places { OnOk result (length domain.new.actions.schemas.items ≡ length domain.new.actions.places.items) }
-    ensures sums { OnOk result (first_of None (spec.sums_pass problem.new.metric (values_of problem.new.values.entries) domain.new.actions.schemas.items domain.new.actions.places.items).faults ≡ None) }
-    ensures clean { OnOk result (first_pass (spec.passes_with domain.old.declarations domain.old.objects domain.old.actions.schemas.items domain.old.actions.places.items (alone root.now)) ≡ None) }
-    ensures fault { IfErr result (λ e. AllFail e (spec.passes_with domain.old.declarations domain.old.objects domain.old.actions.schemas.items domain.old.actions.places.items (alone root.now))) }
+    ensures sums { OnOk result
+        (first_of None (spec.sums_pass problem.new.metric (values_of problem.new.values.entries)
+        domain.new.actions.schemas.items domain.new.actions.places.items).faults ≡ None) }
+    ensures clean { OnOk result
+        (first_pass (spec.passes_with domain.old.declarations domain.old.objects
+        domain.old.actions.schemas.items domain.old.actions.places.items (alone root.now)) ≡ None) }
+    ensures fault { IfErr result
+        (λ e. AllFail e (spec.passes_with domain.old.declarations domain.old.objects
+        domain.old.actions.schemas.items domain.old.actions.places.items (alone root.now))) }
 {
     read_problem(
         alloc,

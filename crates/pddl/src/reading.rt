@@ -93,7 +93,9 @@ fn read_into(
     requires no_variables { variables.now ≡ [] }
     ensures found { OnOk result (SpellTask domain.now problem.now (task_in parts.new.domain parts.new.problem)) }
     ensures places { OnOk result (length parts.new.domain.actions.schemas.items ≡ length parts.new.domain.actions.places.items) }
-    ensures sums { OnOk result (first_of None (sums_pass parts.new.problem.metric (values_of parts.new.problem.values.entries) parts.new.domain.actions.schemas.items parts.new.domain.actions.places.items).faults ≡ None) }
+    ensures sums { OnOk result
+        (first_of None (sums_pass parts.new.problem.metric (values_of parts.new.problem.values.entries)
+        parts.new.domain.actions.schemas.items parts.new.domain.actions.places.items).faults ≡ None) }
     ensures fault { IfErr result (λ e. IsTaskRefusal domain.now problem.now e) }
 {
     let domain_tree = tree_of(alloc, PlanningFile::Domain, domain)?;
@@ -118,7 +120,9 @@ fn read_parts(
     requires { variables.now ≡ [] }
     ensures found { IfOk result (λ p. SpellTask domain.now problem.now (task_in p.domain p.problem)) }
     ensures places { IfOk result (λ p. length p.domain.actions.schemas.items ≡ length p.domain.actions.places.items) }
-    ensures sums { IfOk result (λ p. first_of None (sums_pass p.problem.metric (values_of p.problem.values.entries) p.domain.actions.schemas.items p.domain.actions.places.items).faults ≡ None) }
+    ensures sums { IfOk result
+        (λ p. first_of None (sums_pass p.problem.metric (values_of p.problem.values.entries)
+        p.domain.actions.schemas.items p.domain.actions.places.items).faults ≡ None) }
     ensures fault { IfErr result (λ e. IsTaskRefusal domain.now problem.now e) }
 {
     let mut parts = TaskParts::new(alloc);

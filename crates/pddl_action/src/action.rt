@@ -42,7 +42,8 @@ fn read_name_word(
     first: &mut Option<Fault>,
 ) -> Result<(), AllocError>
     ensures names { OnOk result ((end : ℕ) (rest : Forms) → names.new ≡ spec.with_action_name names.old (word_form at end word.now rest)) }
-    ensures faults { OnOk result ((home end : ℕ) (rest : Forms) → first.new ≡ first_of first.old (spec.named_faults names.old home (word_form at end word.now rest))) }
+    ensures faults { OnOk result ((home end : ℕ) (rest : Forms) → first.new
+        ≡ first_of first.old (spec.named_faults names.old home (word_form at end word.now rest))) }
 {
     if word_kind(word) != WordKind::Name {
         blame(first, at, FaultKind::Shape);

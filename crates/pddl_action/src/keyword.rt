@@ -149,9 +149,11 @@ impl<'a> PartList<'a> {
     #[tactic(auto, using(sexp::proofs::Walking::walking, pddl_syntax::proofs::Trees::noting, pddl_effect::proofs::Steps::appending), unfolding(pddl_syntax::specs::Faults::first_of))]
     fn read(&mut self, tree: &'a Tree, first: &mut Option<Fault>) -> Result<(), AllocError>
         ensures parts { (rest : Forms) → OnOk result (
-            map spec.part_of self.old.parts.items ++ spec.parts self.old.waiting (before tree.now rest) ≡ map spec.part_of self.new.parts.items ++ spec.parts self.new.waiting rest) }
+            map spec.part_of self.old.parts.items ++ spec.parts self.old.waiting (before tree.now rest)
+            ≡ map spec.part_of self.new.parts.items ++ spec.parts self.new.waiting rest) }
         ensures faults { (home : ℕ) (rest : Forms) → OnOk result (
-            first_of first.old (spec.keyword_faults home self.old.seen self.old.waiting (before tree.now rest)) ≡ first_of first.new (spec.keyword_faults home self.new.seen self.new.waiting rest)) }
+            first_of first.old (spec.keyword_faults home self.old.seen self.old.waiting (before tree.now rest))
+            ≡ first_of first.new (spec.keyword_faults home self.new.seen self.new.waiting rest)) }
     {
         match tree {
             Tree::Word { text, span } => self.read_word(text.as_str(), span.start, first),

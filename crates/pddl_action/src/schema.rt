@@ -187,8 +187,10 @@ impl Body {
         ensures increasing { (rest : List KeywordPart) → OnOk result (
             value_or (option_map (λ e. e.increases.items) self.old.effect) (increases reader.now) Keyword.Effect (keywords.part_of part.entry ∷ rest)
             ≡ value_or (option_map (λ e. e.increases.items) self.new.effect) (increases reader.now) Keyword.Effect rest) }
-        ensures literals { OnOk result (self.new.literals.items ≡ self.old.literals.items ++ spec.value_literals part.entry.keyword (alone part.entry.value.now)) }
-        ensures increases { OnOk result (self.new.increases.items ≡ self.old.increases.items ++ spec.value_increases part.entry.keyword (alone part.entry.value.now)) }
+        ensures literals { OnOk result (self.new.literals.items
+            ≡ self.old.literals.items ++ spec.value_literals part.entry.keyword (alone part.entry.value.now)) }
+        ensures increases { OnOk result (self.new.increases.items
+            ≡ self.old.increases.items ++ spec.value_increases part.entry.keyword (alone part.entry.value.now)) }
         ensures faults { OnOk result (first.new ≡ first_of first.old (body_faults reader.now part.entry.keyword (alone part.entry.value.now))) }
     {
         match part.keyword {
@@ -235,10 +237,14 @@ impl Body {
 /// Reads the precondition and the effect of an action, and records the faults of each part that is one of them, and of
 /// the limits on literals and increases.
 fn read_body(reader: &Reader, parts: &[Part], first: &mut Option<Fault>) -> Result<Body, AllocError>
-    ensures precondition { IfOk result (λ b. option_map_or (λ v. v.items) b.precondition [] ≡ conditions reader.now (keywords.value_of Keyword.Precondition (map keywords.part_of parts.now))) }
-    ensures effects { IfOk result (λ b. option_map_or (λ e. e.effects.items) b.effect [] ≡ effects reader.now (keywords.value_of Keyword.Effect (map keywords.part_of parts.now))) }
-    ensures increases { IfOk result (λ b. option_map_or (λ e. e.increases.items) b.effect [] ≡ increases reader.now (keywords.value_of Keyword.Effect (map keywords.part_of parts.now))) }
-    ensures faults { OnOk result (first.new ≡ first_of first.old (bodies_faults reader.now (map keywords.part_of parts.now) ++ spec.limit_faults (map keywords.part_of parts.now))) }
+    ensures precondition { IfOk result (λ b. option_map_or (λ v. v.items) b.precondition []
+        ≡ conditions reader.now (keywords.value_of Keyword.Precondition (map keywords.part_of parts.now))) }
+    ensures effects { IfOk result (λ b. option_map_or (λ e. e.effects.items) b.effect []
+        ≡ effects reader.now (keywords.value_of Keyword.Effect (map keywords.part_of parts.now))) }
+    ensures increases { IfOk result (λ b. option_map_or (λ e. e.increases.items) b.effect []
+        ≡ increases reader.now (keywords.value_of Keyword.Effect (map keywords.part_of parts.now))) }
+    ensures faults { OnOk result (first.new
+        ≡ first_of first.old (bodies_faults reader.now (map keywords.part_of parts.now) ++ spec.limit_faults (map keywords.part_of parts.now))) }
 {
     let mut body = Body::new(reader.alloc);
     for part in parts {

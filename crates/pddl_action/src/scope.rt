@@ -21,7 +21,8 @@ impl Model for Declarations {
 
     ghost Value = { spec.Declarations };
 
-    ghost view = { λ d. record { types = d.types.names; supertypes = d.types.supertypes.items; predicates = d.predicates; functions = d.functions; objects = d.objects } };
+    ghost view = { λ d. record
+    { types = d.types.names; supertypes = d.types.supertypes.items; predicates = d.predicates; functions = d.functions; objects = d.objects } };
 }
 
 impl Declarations {

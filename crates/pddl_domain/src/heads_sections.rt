@@ -69,7 +69,8 @@ impl Declarations {
         ensures heads { self.new.heads ≡ self.old.heads }
         ensures count { self.new.count ≡ self.old.count + 1 }
         ensures faults { (known : List ℕ → Bool) (parameters : Forms) →
-            first_of first.old (item_faults known table self.old.heads self.old.count item.entry.at item.entry.head_at (word_kind item.entry.head.now) item.entry.head.now parameters)
+            first_of first.old (item_faults known table self.old.heads self.old.count item.entry.at
+            item.entry.head_at (word_kind item.entry.head.now) item.entry.head.now parameters)
             ≡ first_of first.new (parameters_faults known item.entry.at parameters) }
     {
         self.count_item(table, item.at, first);
@@ -95,7 +96,8 @@ impl Declarations {
         first: &mut Option<Fault>,
     ) -> Result<(), AllocError>
         requires { self.old.count < usize.MAX }
-        ensures heads { OnOk result (self.new.heads ≡ with_item (word_kind item.entry.head.now) self.old.heads item.entry.head.now (views item.entry.parameters.now)) }
+        ensures heads { OnOk result (self.new.heads
+            ≡ with_item (word_kind item.entry.head.now) self.old.heads item.entry.head.now (views item.entry.parameters.now)) }
         ensures count { OnOk result (self.new.count ≡ self.old.count + 1) }
         ensures faults { OnOk result (first.new ≡ first_of first.old (item_faults (is_there types.now.names) table self.old.heads self.old.count
             item.entry.at item.entry.head_at (word_kind item.entry.head.now) item.entry.head.now (views item.entry.parameters.now))) }
@@ -121,7 +123,8 @@ impl Declarations {
         requires { self.old.count < usize.MAX }
         ensures heads { OnOk result (self.new.heads ≡ with_list self.old.heads (views items.now)) }
         ensures count { OnOk result (self.new.count ≡ count_after self.old.count (views items.now)) }
-        ensures faults { OnOk result (first.new ≡ first_of first.old (list_faults (is_there types.now.names) table self.old.heads self.old.count at (views items.now))) }
+        ensures faults { OnOk result (first.new
+            ≡ first_of first.old (list_faults (is_there types.now.names) table self.old.heads self.old.count at (views items.now))) }
     {
         match items {
             [] => blame(first, at, FaultKind::Shape),
@@ -192,7 +195,8 @@ fn read_predicates_tree(
     requires { predicates.old.count < usize.MAX }
     ensures count { OnOk result (predicates.new.count ≤ predicates.old.count + 1) }
     ensures heads { OnOk result ((rest : Forms) → predicate_heads predicates.old.heads (before tree.now rest) ≡ predicate_heads predicates.new.heads rest) }
-    ensures faults { OnOk result ((rest : Forms) → first_of first.old (predicates_faults (is_there types.now.names) predicates.old.heads predicates.old.count (before tree.now rest))
+    ensures faults { OnOk result ((rest : Forms) →
+        first_of first.old (predicates_faults (is_there types.now.names) predicates.old.heads predicates.old.count (before tree.now rest))
         ≡ first_of first.new (predicates_faults (is_there types.now.names) predicates.new.heads predicates.new.count rest)) }
 {
     match tree {
@@ -220,7 +224,8 @@ fn read_predicates(
 ) -> Result<(), AllocError>
     requires { predicates.old.count ≡ 0 }
     ensures heads { OnOk result (predicates.new.heads ≡ predicate_heads predicates.old.heads (views items.now)) }
-    ensures faults { OnOk result (first.new ≡ first_of first.old (predicates_faults (is_there types.now.names) predicates.old.heads predicates.old.count (views items.now))) }
+    ensures faults { OnOk result (first.new
+        ≡ first_of first.old (predicates_faults (is_there types.now.names) predicates.old.heads predicates.old.count (views items.now))) }
 {
     for tree in items {
         read_predicates_tree(types, predicates, tree, first)?;
@@ -278,7 +283,8 @@ fn is_empty_after(empty: bool, items: &[Tree]) -> bool
 /// Records the fault of a tree in the position of `number`.
 fn blame_number(tree: &Tree, first: &mut Option<Fault>)
     ensures { (known : List ℕ → Bool) (home : ℕ) (heads : DeclaredHeads) (count : ℕ) (rest : Forms) →
-        first_of first.old (faults_behind known home heads count (before tree.now rest)) ≡ first_of first.new (functions_faults known home true heads count rest) }
+        first_of first.old (faults_behind known home heads count (before tree.now rest))
+        ≡ first_of first.new (functions_faults known home true heads count rest) }
 {
     match tree {
         Tree::Word { text, span } => blame_if(
@@ -336,8 +342,10 @@ impl Functions {
         ensures heads { OnOk result ((rest : Forms) → heads_from self.old.wants_number self.old.declarations.heads (before tree.now rest)
             ≡ heads_from self.new.wants_number self.new.declarations.heads rest) }
         ensures faults { OnOk result ((home : ℕ) (rest : Forms) →
-            first_of first.old (faults_from self.old.wants_number (is_there types.now.names) home self.old.is_empty self.old.declarations.heads self.old.declarations.count (before tree.now rest))
-            ≡ first_of first.new (faults_from self.new.wants_number (is_there types.now.names) home self.new.is_empty self.new.declarations.heads self.new.declarations.count rest)) }
+            first_of first.old (faults_from self.old.wants_number (is_there types.now.names) home self.old.is_empty
+            self.old.declarations.heads self.old.declarations.count (before tree.now rest))
+            ≡ first_of first.new (faults_from self.new.wants_number (is_there types.now.names) home
+            self.new.is_empty self.new.declarations.heads self.new.declarations.count rest)) }
     {
         if self.wants_number {
             blame_number(tree, first);
@@ -371,7 +379,8 @@ impl Functions {
         requires { self.old.declarations.count ≡ 0 }
         ensures heads { OnOk result (self.new.declarations.heads ≡ heads_from self.old.wants_number self.old.declarations.heads (views items.now)) }
         ensures faults { OnOk result (first.new ≡ first_of first.old
-            (faults_from self.old.wants_number (is_there types.now.names) home self.old.is_empty self.old.declarations.heads self.old.declarations.count (views items.now))) }
+            (faults_from self.old.wants_number (is_there types.now.names) home self.old.is_empty
+            self.old.declarations.heads self.old.declarations.count (views items.now))) }
     {
         for tree in items {
             self.read(types, tree, first)?;

@@ -234,7 +234,8 @@ fn noted_supertypes(
     requires names_in { All (λ d. d.name < count) subtypes.now }
     requires parents_in { All (λ d. IfSome d.parent (λ p. p < count)) subtypes.now }
     ensures supertypes { IfOk result (λ supertypes. supertypes.items ≡ parents subtypes.now count) }
-    ensures faults { OnOk result (first.new ≡ first_of first.old (subtype_faults (first_of_name subtypes.now) (lies_on_cycle (parents subtypes.now count)) subtypes.now)) }
+    ensures faults { OnOk result (first.new
+        ≡ first_of first.old (subtype_faults (first_of_name subtypes.now) (lies_on_cycle (parents subtypes.now count)) subtypes.now)) }
 {
     let firsts = first_declarations(alloc, subtypes, count)?;
     let supertypes = supertypes(alloc, &firsts)?;

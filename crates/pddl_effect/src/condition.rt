@@ -60,9 +60,12 @@ pub fn read_condition(
     conditions: &mut Conditions,
     first: &mut Option<Fault>,
 ) -> Result<(), AllocError>
-    ensures meaning { (rest : Forms) → OnOk result (conditions.old.conditions.items ++ spec.conditions reader.now (before tree.now rest) ≡ conditions.new.conditions.items ++ spec.conditions reader.now rest) }
-    ensures literals { (rest : Forms) → OnOk result (conditions.old.literals.items ++ literal_places Setting.InCondition (before tree.now rest) ≡ conditions.new.literals.items ++ literal_places Setting.InCondition rest) }
-    ensures faults { (rest : Forms) → OnOk result (first_of first.old (spec.conditions_faults reader.now (before tree.now rest)) ≡ first_of first.new (spec.conditions_faults reader.now rest)) }
+    ensures meaning { (rest : Forms) → OnOk result (conditions.old.conditions.items ++ spec.conditions reader.now (before tree.now rest)
+        ≡ conditions.new.conditions.items ++ spec.conditions reader.now rest) }
+    ensures literals { (rest : Forms) → OnOk result (conditions.old.literals.items ++ literal_places Setting.InCondition (before tree.now rest)
+        ≡ conditions.new.literals.items ++ literal_places Setting.InCondition rest) }
+    ensures faults { (rest : Forms) → OnOk result (first_of first.old (spec.conditions_faults reader.now (before tree.now rest))
+        ≡ first_of first.new (spec.conditions_faults reader.now rest)) }
 {
     read_condition_in(Setting::InCondition, reader, tree, conditions, first)
 }
@@ -79,13 +82,16 @@ pub fn read_condition_in(
     first: &mut Option<Fault>,
 ) -> Result<(), AllocError>
     ensures meaning { (rest : Forms) → OnOk result (
-        conditions.old.conditions.items ++ spec.conditions_in setting reader.now (before tree.now rest) ≡ conditions.new.conditions.items ++ spec.conditions_in setting reader.now rest) }
+        conditions.old.conditions.items ++ spec.conditions_in setting reader.now (before tree.now rest)
+        ≡ conditions.new.conditions.items ++ spec.conditions_in setting reader.now rest) }
     ensures places { (rest : Forms) → OnOk result (
-        conditions.old.places.items ++ spec.condition_places setting reader.now (before tree.now rest) ≡ conditions.new.places.items ++ spec.condition_places setting reader.now rest) }
+        conditions.old.places.items ++ spec.condition_places setting reader.now (before tree.now rest)
+        ≡ conditions.new.places.items ++ spec.condition_places setting reader.now rest) }
     ensures literals { (rest : Forms) → OnOk result (
         conditions.old.literals.items ++ literal_places setting (before tree.now rest) ≡ conditions.new.literals.items ++ literal_places setting rest) }
     ensures faults { (rest : Forms) → OnOk result (
-        first_of first.old (spec.conditions_faults_in setting reader.now (before tree.now rest)) ≡ first_of first.new (spec.conditions_faults_in setting reader.now rest)) }
+        first_of first.old (spec.conditions_faults_in setting reader.now (before tree.now rest))
+        ≡ first_of first.new (spec.conditions_faults_in setting reader.now rest)) }
 {
     match tree {
         Tree::Word { span, .. } => blame(first, span.start, FaultKind::Shape),
@@ -137,7 +143,8 @@ fn read_conditions(
     conditions: &mut Conditions,
     first: &mut Option<Fault>,
 ) -> Result<(), AllocError>
-    ensures meaning { OnOk result (conditions.new.conditions.items ≡ conditions.old.conditions.items ++ spec.conditions_in setting reader.now (views items.now)) }
+    ensures meaning { OnOk result (conditions.new.conditions.items
+        ≡ conditions.old.conditions.items ++ spec.conditions_in setting reader.now (views items.now)) }
     ensures places { OnOk result (conditions.new.places.items ≡ conditions.old.places.items ++ spec.condition_places setting reader.now (views items.now)) }
     ensures literals { OnOk result (conditions.new.literals.items ≡ conditions.old.literals.items ++ literal_places setting (views items.now)) }
     ensures faults { OnOk result (first.new ≡ first_of first.old (spec.conditions_faults_in setting reader.now (views items.now))) }

@@ -93,12 +93,17 @@ pub fn read_effect(
     effects: &mut Effects,
     first: &mut Option<Fault>,
 ) -> Result<(), AllocError>
-    ensures effects { (rest : Forms) → OnOk result (effects.old.effects.items ++ spec.effects reader.now (before tree.now rest) ≡ effects.new.effects.items ++ spec.effects reader.now rest) }
-    ensures increases { (rest : Forms) → OnOk result (effects.old.increases.items ++ spec.increases reader.now (before tree.now rest) ≡ effects.new.increases.items ++ spec.increases reader.now rest) }
-    ensures literals { (rest : Forms) → OnOk result (effects.old.literals.items ++ literal_places Setting.InEffect (before tree.now rest) ≡ effects.new.literals.items ++ literal_places Setting.InEffect rest) }
+    ensures effects { (rest : Forms) →
+        OnOk result (effects.old.effects.items ++ spec.effects reader.now (before tree.now rest) ≡ effects.new.effects.items ++ spec.effects reader.now rest) }
+    ensures increases { (rest : Forms) → OnOk result (effects.old.increases.items ++ spec.increases reader.now (before tree.now rest)
+        ≡ effects.new.increases.items ++ spec.increases reader.now rest) }
+    ensures literals { (rest : Forms) → OnOk result (effects.old.literals.items ++ literal_places Setting.InEffect (before tree.now rest)
+        ≡ effects.new.literals.items ++ literal_places Setting.InEffect rest) }
     ensures increase_places { (rest : Forms) → OnOk result (
-        effects.old.increase_places.items ++ increase_places Setting.InEffect (before tree.now rest) ≡ effects.new.increase_places.items ++ increase_places Setting.InEffect rest) }
-    ensures faults { (rest : Forms) → OnOk result (first_of first.old (spec.effects_faults reader.now (before tree.now rest)) ≡ first_of first.new (spec.effects_faults reader.now rest)) }
+        effects.old.increase_places.items ++ increase_places Setting.InEffect (before tree.now rest)
+        ≡ effects.new.increase_places.items ++ increase_places Setting.InEffect rest) }
+    ensures faults { (rest : Forms) →
+        OnOk result (first_of first.old (spec.effects_faults reader.now (before tree.now rest)) ≡ first_of first.new (spec.effects_faults reader.now rest)) }
 {
     match tree {
         Tree::Word { span, .. } => blame(first, span.start, FaultKind::Shape),
@@ -148,7 +153,8 @@ fn read_effects(
     ensures effects { OnOk result (effects.new.effects.items ≡ effects.old.effects.items ++ spec.effects reader.now (views items.now)) }
     ensures increases { OnOk result (effects.new.increases.items ≡ effects.old.increases.items ++ spec.increases reader.now (views items.now)) }
     ensures literals { OnOk result (effects.new.literals.items ≡ effects.old.literals.items ++ literal_places Setting.InEffect (views items.now)) }
-    ensures increase_places { OnOk result (effects.new.increase_places.items ≡ effects.old.increase_places.items ++ increase_places Setting.InEffect (views items.now)) }
+    ensures increase_places
+        { OnOk result (effects.new.increase_places.items ≡ effects.old.increase_places.items ++ increase_places Setting.InEffect (views items.now)) }
     ensures faults { OnOk result (first.new ≡ first_of first.old (spec.effects_faults reader.now (views items.now))) }
 {
     for item in items {

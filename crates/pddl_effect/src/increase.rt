@@ -48,7 +48,8 @@ fn blame_increased_word(word: &str, at: usize, increase_at: usize, first: &mut O
 /// Records the faults of a list as the increased function, after the word `increase` at `increase_at`.
 #[tactic(auto, using(pddl_syntax::proofs::Trees::noting), unfolding(pddl_syntax::specs::Faults::first_of))]
 fn blame_increased_list(list: &HeadedList, increase_at: usize, first: &mut Option<Fault>)
-    ensures { (end : ℕ) → first.new ≡ first_of first.old (spec.increased_inside_faults increase_at list.now.start (word list.now.head_start end list.now.head (views list.now.rest))) }
+    ensures { (end : ℕ) → first.new
+        ≡ first_of first.old (spec.increased_inside_faults increase_at list.now.start (word list.now.head_start end list.now.head (views list.now.rest))) }
 {
     blame_increased_word(list.head, list.head_start, increase_at, first);
     blame_if(

@@ -69,9 +69,11 @@ fn negated_list(
     not_at: usize,
     first: &mut Option<Fault>,
 ) -> Result<Option<Condition>, AllocError>
-    ensures meaning { IfOk result (λ c. option_to_list c ≡ spec.negated_condition reader.now list.now.head (views list.now.rest) (beginning setting list.now.head)) }
+    ensures meaning { IfOk result (λ c. option_to_list c
+        ≡ spec.negated_condition reader.now list.now.head (views list.now.rest) (beginning setting list.now.head)) }
     ensures faults { OnOk result (first.new ≡ first_of first.old
-        (spec.negated_group_faults reader.now not_at list.now.start list.now.head_start list.now.head (views list.now.rest) (beginning setting list.now.head))) }
+        (spec.negated_group_faults reader.now not_at list.now.start list.now.head_start
+        list.now.head (views list.now.rest) (beginning setting list.now.head))) }
 {
     match beginning_of(setting, list.head) {
         Beginning::Atom => {
@@ -100,7 +102,8 @@ fn negated_tree(
     first: &mut Option<Fault>,
 ) -> Result<Option<Condition>, AllocError>
     ensures meaning { (rest : Forms) → IfOk result (λ c. option_to_list c ≡ spec.negated_conditions setting reader.now (before tree.now rest)) }
-    ensures faults { (rest : Forms) → OnOk result (first.new ≡ first_of first.old (spec.first_negated_faults setting reader.now not_at (before tree.now rest))) }
+    ensures faults { (rest : Forms) →
+        OnOk result (first.new ≡ first_of first.old (spec.first_negated_faults setting reader.now not_at (before tree.now rest))) }
 {
     match tree {
         Tree::Word { .. } => {
@@ -139,7 +142,8 @@ pub fn negated(
     first: &mut Option<Fault>,
 ) -> Result<Option<Condition>, AllocError>
     ensures meaning { IfOk result (λ c. option_to_list c ≡ spec.negated_conditions setting reader.now (views list.now.rest)) }
-    ensures faults { OnOk result (first.new ≡ first_of first.old (spec.negated_faults setting reader.now list.now.start list.now.head_start (views list.now.rest))) }
+    ensures faults { OnOk result (first.new
+        ≡ first_of first.old (spec.negated_faults setting reader.now list.now.start list.now.head_start (views list.now.rest))) }
 {
     match list.rest {
         [] => {

@@ -110,12 +110,16 @@ fn read_list(
     first: &mut Option<Fault>,
 ) -> Result<(), AllocError>
     ensures atoms { OnOk result (
-        state.new.atoms.items ≡ state.old.atoms.items ++ option_to_list (spec.item_atom reader.now list.now.head (views list.now.rest) (spec.item_kind list.now.head (views list.now.rest)))) }
+        state.new.atoms.items ≡ state.old.atoms.items
+        ++ option_to_list (spec.item_atom reader.now list.now.head (views list.now.rest) (spec.item_kind list.now.head (views list.now.rest)))) }
     ensures values { OnOk result (
-        spec.values_of state.new.values.entries ≡ spec.with_value (spec.values_of state.old.values.entries) (spec.item_value reader.now (views list.now.rest) (spec.item_kind list.now.head (views list.now.rest)))) }
+        spec.values_of state.new.values.entries ≡ spec.with_value (spec.values_of state.old.values.entries)
+        (spec.item_value reader.now (views list.now.rest) (spec.item_kind list.now.head (views list.now.rest)))) }
     ensures faults { (fs : List FaultAt) → OnOk result (
-        first_of first.old (spec.item_faults reader.now list.now.start list.now.head_start list.now.head (views list.now.rest) (spec.item_kind list.now.head (views list.now.rest))
-        ++ faults_if (spec.is_restated (spec.values_of state.old.values.entries) (spec.item_value reader.now (views list.now.rest) (spec.item_kind list.now.head (views list.now.rest)))) (fault Twice list.now.start) fs)
+        first_of first.old (spec.item_faults reader.now list.now.start list.now.head_start list.now.head
+        (views list.now.rest) (spec.item_kind list.now.head (views list.now.rest))
+        ++ faults_if (spec.is_restated (spec.values_of state.old.values.entries)
+        (spec.item_value reader.now (views list.now.rest) (spec.item_kind list.now.head (views list.now.rest)))) (fault Twice list.now.start) fs)
         ≡ first_of first.new fs) }
 {
     match item_kind(list.head, list.rest) {
@@ -151,7 +155,8 @@ fn read_item(
         ≡ spec.stated_values reader.now (spec.values_of state.new.values.entries) rest) }
     ensures faults { (n : ℕ) (rest : Forms) → OnOk result (
         first_of first.old (spec.initial_faults reader.now n (spec.values_of state.old.values.entries) (before tree.now rest))
-        ≡ first_of first.new (spec.past_limit n (start_of (before tree.now rest)) (spec.initial_faults reader.now (n + 1) (spec.values_of state.new.values.entries) rest))) }
+        ≡ first_of first.new
+        (spec.past_limit n (start_of (before tree.now rest)) (spec.initial_faults reader.now (n + 1) (spec.values_of state.new.values.entries) rest))) }
 {
     match tree {
         Tree::Word { span, .. } => blame(first, span.start, FaultKind::Shape),

@@ -63,7 +63,8 @@ pub fn sections_of(root: &Tree) -> &[Tree]
 /// Returns the tree as a section with this name, or `None` if it is not such a section.
 fn as_section<'a>(tree: &'a Tree, name: &str) -> Option<Section<'a>>
     ensures one { (rest : Forms) → spec.or_else (option_map part_of result) (spec.section name.now rest) ≡ spec.section name.now (before tree.now rest) }
-    ensures all { (rest : Forms) → option_to_list (option_map part_of result) ++ spec.all_sections name.now rest ≡ spec.all_sections name.now (before tree.now rest) }
+    ensures all { (rest : Forms) → option_to_list (option_map part_of result) ++ spec.all_sections name.now rest
+        ≡ spec.all_sections name.now (before tree.now rest) }
 {
     match tree {
         Tree::Word { text: _, span: _ } => None,
@@ -252,7 +253,8 @@ fn blame_section_head(
     first: &mut Option<Fault>,
 ) -> Result<(), AllocError>
     ensures { OnOk result ((s e : ℕ) (inner rest : Forms) →
-        first_of first.old (spec.section_faults file seen.old (group s e (before head.now inner) rest)) ≡ first_of first.new (spec.section_faults file seen.new rest)) }
+        first_of first.old (spec.section_faults file seen.old (group s e (before head.now inner) rest))
+        ≡ first_of first.new (spec.section_faults file seen.new rest)) }
 {
     match head {
         Tree::Word { text, span } => blame_head(

@@ -153,7 +153,9 @@ fn read_type(
     first: &mut Option<Fault>,
 ) -> Result<Option<String>, AllocError>
     ensures parent { IfOk result (λ p. (rest : Forms) → option_map string_bytes p ≡ type_at (before tree.now rest)) }
-    ensures faults { OnOk result ((v : Bool) (home : ℕ) (rest : Forms) → first_of first.old (type_faults v (is_known any types.now) home (before tree.now rest)) ≡ first_of first.new (typed_faults v (is_known any types.now) home true rest)) }
+    ensures faults { OnOk result ((v : Bool) (home : ℕ) (rest : Forms) →
+        first_of first.old (type_faults v (is_known any types.now) home (before tree.now rest))
+        ≡ first_of first.new (typed_faults v (is_known any types.now) home true rest)) }
 {
     match tree {
         Tree::Word { text, span } => read_type_word(
@@ -174,7 +176,8 @@ fn read_type(
 impl Typed {
     fn new(alloc: Global) -> Typed
         ensures meaning { (v : Bool) (rest : Forms) → reading_of v result rest ≡ declared v rest }
-        ensures faults { (v : Bool) (known : List ℕ → Bool) (home : ℕ) (rest : Forms) → complaints_of v known home result rest ≡ typed_faults v known home true rest }
+        ensures faults { (v : Bool) (known : List ℕ → Bool) (home : ℕ) (rest : Forms) →
+            complaints_of v known home result rest ≡ typed_faults v known home true rest }
     {
         Typed {
             alloc,
@@ -194,8 +197,11 @@ impl Typed {
         first: &mut Option<Fault>,
     ) -> Result<(), AllocError>
         requires { self.old.wants_type ≡ false }
-        ensures parent { OnOk result ((end : ℕ) (rest : Forms) → reading_of variables self.old (word at end text.now rest) ≡ reading_of variables self.new rest) }
-        ensures faults { OnOk result ((known : List ℕ → Bool) (home end : ℕ) (rest : Forms) → first_of first.old (complaints_of variables known home self.old (word at end text.now rest)) ≡ first_of first.new (complaints_of variables known home self.new rest)) }
+        ensures parent { OnOk result ((end : ℕ) (rest : Forms) → reading_of variables self.old (word at end text.now rest)
+            ≡ reading_of variables self.new rest) }
+        ensures faults { OnOk result ((known : List ℕ → Bool) (home end : ℕ) (rest : Forms) →
+            first_of first.old (complaints_of variables known home self.old (word at end text.now rest))
+            ≡ first_of first.new (complaints_of variables known home self.new rest)) }
     {
         match item_of(variables, text) {
             Item::Entry => {
@@ -215,7 +221,8 @@ impl Typed {
 
     /// Ends the current run of names, with its type.
     fn end_run(&mut self, parent: Option<String>) -> Result<(), AllocError>
-        ensures runs { OnOk result (spread self.new.runs.items ≡ spread self.old.runs.items ++ map (with_type (option_map string_bytes parent)) self.old.names.items) }
+        ensures runs { OnOk result (spread self.new.runs.items
+            ≡ spread self.old.runs.items ++ map (with_type (option_map string_bytes parent)) self.old.names.items) }
         ensures names { OnOk result (self.new.names.items ≡ []) }
         ensures wants { OnOk result (self.new.wants_type ≡ false) }
     {
@@ -235,7 +242,9 @@ impl Typed {
         first: &mut Option<Fault>,
     ) -> Result<(), AllocError>
         ensures parent { OnOk result ((rest : Forms) → reading_of variables self.old (before tree.now rest) ≡ reading_of variables self.new rest) }
-        ensures faults { OnOk result ((home : ℕ) (rest : Forms) → first_of first.old (complaints_of variables (is_known any types.now) home self.old (before tree.now rest)) ≡ first_of first.new (complaints_of variables (is_known any types.now) home self.new rest)) }
+        ensures faults { OnOk result ((home : ℕ) (rest : Forms) →
+            first_of first.old (complaints_of variables (is_known any types.now) home self.old (before tree.now rest))
+            ≡ first_of first.new (complaints_of variables (is_known any types.now) home self.new rest)) }
     {
         if self.wants_type {
             let parent = read_type(self.alloc, any, types, tree, first)?;
