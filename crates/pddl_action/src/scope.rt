@@ -22,7 +22,7 @@ impl Model for Declarations {
     ghost Value = { spec.Declarations };
 
     ghost view = { λ d. record
-    { types = d.types.names; supertypes = d.types.supertypes.items; predicates = d.predicates; functions = d.functions; objects = d.objects } };
+        { types = d.types.names; supertypes = d.types.supertypes.items; predicates = d.predicates; functions = d.functions; objects = d.objects } };
 }
 
 impl Declarations {

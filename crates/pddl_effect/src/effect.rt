@@ -153,8 +153,8 @@ fn read_effects(
     ensures effects { OnOk result (effects.new.effects.items ≡ effects.old.effects.items ++ spec.effects reader.now (views items.now)) }
     ensures increases { OnOk result (effects.new.increases.items ≡ effects.old.increases.items ++ spec.increases reader.now (views items.now)) }
     ensures literals { OnOk result (effects.new.literals.items ≡ effects.old.literals.items ++ literal_places Setting.InEffect (views items.now)) }
-    ensures increase_places
-        { OnOk result (effects.new.increase_places.items ≡ effects.old.increase_places.items ++ increase_places Setting.InEffect (views items.now)) }
+    ensures increase_places { OnOk result (effects.new.increase_places.items
+        ≡ effects.old.increase_places.items ++ increase_places Setting.InEffect (views items.now)) }
     ensures faults { OnOk result (first.new ≡ first_of first.old (spec.effects_faults reader.now (views items.now))) }
 {
     for item in items {
