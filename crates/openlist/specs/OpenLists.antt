@@ -1,6 +1,6 @@
 -- The order of entries of an open list, and the first entry of a list (best-first search: Hart, Nilsson and Raphael
 -- 1968).
-use Rattle.std.specs.Prelude.{ℕ, Bool, true, ◌≡◌, ◌&&◌, ◌||◌, ◌==◌, nat_lt, nat_le, List, All}
+use Rattle.std.specs.Prelude.{ℕ, Bool, true, ◌≡◌, ◌&&◌, ◌||◌, ◌==◌, nat_lt, nat_le, List, [], All, Contains, Option, None, Some}
 use Rattle.openlist.specs.declared.entry.Rank.{Rank}
 use Rattle.openlist.specs.declared.entry.OpenEntry.{OpenEntry}
 
@@ -20,6 +20,11 @@ comes_first x y =
 -- the entry comes before each of these entries or is equal to it
 abbrev pub IsFirst : OpenEntry → List OpenEntry → Type 0
 IsFirst x entries = All (λ y. comes_first x y ≡ true) entries
+
+-- the first of these entries, or None if there is none
+abbrev pub IsFirstOf : Option OpenEntry → List OpenEntry → Type 0
+IsFirstOf None entries = entries ≡ []
+IsFirstOf (Some x) entries = Contains entries x × IsFirst x entries
 
 -- the entry with f-value `a`, cost `b`, number of operators `c` and index `d`
 abbrev pub entry_of : ℕ → ℕ → ℕ → ℕ → OpenEntry

@@ -1,46 +1,42 @@
-//! An open list as buckets by f.
+//! An open list as buckets by f, which stores its first entry.
 
-ghost use Rattle.std.specs.Prelude.{◌≡◌, []};
+ghost use Rattle.std.specs.Prelude.{◌≡◌, List, [], ◌∷◌};
+ghost use Rattle.openlist.specs.declared.entry.OpenEntry.{OpenEntry};
+ghost use Rattle.openlist.specs.OpenLists.{IsFirstOf};
 
-use crate::bucket::Bucket;
+use crate::bucket_array::BucketArray;
 use crate::entry::OpenEntry;
-use crate::heap::Heap;
 use crate::open_list::OpenList;
-use crate::row::{begin_reserve, bucket_of, count_far, first_filled, push_near, reserve_near};
 use std::alloc::{AllocError, Global};
 use std::marker::Model;
 
-/// An open list as an array of buckets by f (Dial 1969), each of groups by rank and a binary heap, with one heap for
-/// all entries with f 65536 and above.
+/// An open list as an array of buckets by f that also stores its first entry, since callers read it several times
+/// between two changes.
 ///
-/// A push or a pop takes constant time on average for an entry of a group, and time logarithmic in the number of the
-/// heap's entries otherwise. An entry takes 4 bytes in a group, 24 in a bucket's heap and 32 in the last heap. A pop
-/// also scans empty buckets, from the f-value of the last pop, or of a push below that, to the first bucket that has an
-/// entry; `least` does the same without moving the start of the scan. So while no push is below the last f that was
-/// popped, all pops together scan each bucket once.
+/// `least` takes constant time, and a push the time of a push to the array. A pop takes the time of a pop from the
+/// array, and then finds the next first entry: it scans empty buckets from the f-value of the entry that it returns to
+/// the first bucket that has an entry, and the next pop scans them again. So while no push is below the f-value of the
+/// first entry, all pops together scan each bucket at most twice; after a push below it, the buckets from the pushed
+/// f-value to that of the former first entry are scanned again. Memory is that of the array, and one entry.
 ///
-/// In contracts its value is the entries of each bucket, the number of entries that still fit in each without an
-/// allocation, the start of the scan, and the heap of entries without a bucket.
+/// In contracts its value is that of the array.
 #[derive(Drop)]
 pub struct Buckets {
-    /// The allocator of new buckets.
-    alloc: Global,
-    /// The buckets: index i has the entries of f-value i. The last f-value with a bucket is below `FAR`.
-    row: Vec<Bucket>,
-    /// No bucket below this index has an entry.
-    least: usize,
-    /// The entries of f-values that have no bucket.
-    far: Heap,
+    /// The entries.
+    array: BucketArray,
+    /// The first entry of the array, or `None` if it has none.
+    first: Option<OpenEntry>,
 }
 
 impl Model for Buckets {
-    ghost use Rattle.openlist.specs.BucketLists.{BucketsHeld, IsInOrder, held_of};
+    ghost use Rattle.openlist.specs.BucketLists.{BucketsHeld, all_entries};
+    ghost use Rattle.openlist.specs.OpenLists.{IsFirstOf};
 
     ghost Value = { BucketsHeld };
 
-    ghost view = { λ it. held_of it.row.items it.least it.far };
+    ghost view = { λ it. it.array };
 
-    ghost invariant = { λ it. IsInOrder (held_of it.row.items it.least it.far) };
+    ghost invariant = { λ it. IsFirstOf it.first (all_entries it.array) };
 }
 
 impl Buckets {
@@ -51,10 +47,8 @@ impl Buckets {
         ensures { all_entries result ≡ [] }
     {
         Buckets {
-            alloc,
-            row: Vec::new(alloc),
-            least: 0,
-            far: Heap::new(alloc),
+            array: BucketArray::new(alloc),
+            first: None,
         }
     }
 }
@@ -69,35 +63,32 @@ impl OpenList for Buckets {
     ghost fewer = { has_room_in_fewer };
 
     fn reserve(&mut self, fs: &[u64]) -> Result<(), AllocError> {
-        begin_reserve(&mut self.row, self.alloc, fs)?;
-        reserve_near(&mut self.row, fs)?;
-        self.far.reserve_more(count_far(fs))
+        self.array.reserve(fs)
     }
 
     fn push(&mut self, entry: OpenEntry) -> Result<(), AllocError> {
-        let Some(place) = bucket_of(entry.f) else {
-            return self.far.push(entry);
-        };
-        push_near(&mut self.row, self.alloc, place, entry)?;
-        self.least = self.least.min(place);
+        self.array.push(entry)?;
+        self.first = Some(earlier(self.first, entry));
         Ok(())
     }
 
     fn pop(&mut self) -> Option<OpenEntry> {
-        self.least = first_filled(&self.row, self.least);
-        if self.least < self.row.len() {
-            self.row[self.least].pop(self.least as u64)
-        } else {
-            self.far.pop()
-        }
+        let popped = self.array.pop();
+        self.first = self.array.least();
+        popped
     }
 
     fn least(&self) -> Option<OpenEntry> {
-        let place = first_filled(&self.row, self.least);
-        if place < self.row.len() {
-            self.row[place].least(place as u64)
-        } else {
-            self.far.least()
-        }
+        self.first
+    }
+}
+
+/// Returns the first entry of a list to which an entry was added. `first` is that of the list before.
+fn earlier(first: Option<OpenEntry>, added: OpenEntry) -> OpenEntry
+    ensures { (entries : List OpenEntry) → IsFirstOf first entries → IsFirstOf (Some result) (added ∷ entries) }
+{
+    match first {
+        Some(first) => first.min(added),
+        None => added,
     }
 }

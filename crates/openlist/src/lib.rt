@@ -2,6 +2,7 @@
 #![tactic(auto)]
 
 mod bucket;
+mod bucket_array;
 mod bucket_entry;
 mod buckets;
 mod entry;

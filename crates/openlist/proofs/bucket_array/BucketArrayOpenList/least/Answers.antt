@@ -1,7 +1,7 @@
 use Rattle.std.proofs.Common.{arith}
 use Rattle.std.proofs.lemmas.Option.{IfSome_then}
 use Rattle.openlist.proofs.BucketLaws.{Contains-near, empty_up_to, IsFirst-near, only_far, some_both}
-use Rattle.openlist.proofs.buckets.BucketsOpenList.least.Goals as goal
+use Rattle.openlist.proofs.bucket_array.BucketArrayOpenList.least.Goals as goal
 
 pub returns-then-place-len-clause-member : goal.returns-then-place-len-clause-member
 returns-then-place-len-clause-member c =
