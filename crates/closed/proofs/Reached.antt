@@ -180,6 +180,13 @@ pub refused_new : {T E : Type 0} (P : Type 0) (nodes : List Node) (m : Node) (ou
 refused_new P nodes m outcome (Ok x) told h = tt
 refused_new P nodes m outcome (Err e) told h = inl (h.1 ∙ ap New (outcome_of-New nodes m h.0 (sym told ∙ h.1)).place)
 
+-- the same where the outcome was found on the way
+pub refused_found : {T E : Type 0} (P : Type 0) (nodes : List Node) (m : Node) (outcome : Outcome) (r : Result T E) →
+    outcome ≡ outcome_of nodes m → (i : ℕ) × (outcome ≡ New i) → OnErr r ((outcome_of nodes m ≡ New (length nodes)) ⊎ P)
+refused_found P nodes m outcome (Ok x) told h = tt
+refused_found P nodes m outcome (Err e) told h =
+    inl (sym told ∙ h.1 ∙ ap New (outcome_of-New nodes m h.0 (sym told ∙ h.1)).place)
+
 -- better: the node at the place has the state and a greater rank, and is replaced
 pub outcome_of-Better : (nodes : List Node) (m : Node) (i : ℕ) → outcome_of nodes m ≡ Better i → GivesWay nodes m i
 outcome_of-Better nodes m i h =

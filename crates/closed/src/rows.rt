@@ -148,18 +148,6 @@ impl<F: StateForm + Drop> Rows<F> {
         self.rows[index].1 = entry;
     }
 
-    /// Makes room for `more` further rows. Fails if allocation fails or there would be too many rows; the rows are
-    /// unchanged in either case.
-    pub(crate) fn reserve(&mut self, more: usize) -> Result<(), AllocError>
-        ensures { self.new ≡ self.old }
-    {
-        let Some(count) = self.rows.len().checked_add(more) else {
-            return Err(AllocError);
-        };
-        make_room(&mut self.slots, count)?;
-        self.rows.reserve(more)
-    }
-
     /// Returns the index of the row with this form. If there is none, appends a row with it and this entry, and returns
     /// `None`: the row's slot is the one at which the look-up ended. The hint is one for the form. Fails if allocation
     /// fails or there are too many rows; the rows are then unchanged.

@@ -85,15 +85,17 @@ fn outcome_among<F: StateForm + Drop>(rows: &Rows<F>, form: &F, rank: Rank, hint
 }
 
 /// Applies the outcome of reaching the state of a form. A new state is stored as a copy of the form; it was never
-/// expanded. For an improved state, whether it was ever expanded stays as it was. It can fail only for a new state; the
-/// entries are then unchanged.
+/// expanded. For an improved state, whether it was ever expanded stays as it was. The hint is one for the form. It can
+/// fail only for a new state; the entries are then unchanged.
 fn write<F: StateForm + Drop>(
     rows: &mut Rows<F>,
     form: &F,
     entry: SmallEntry,
     outcome: Outcome,
+    hint: Hint,
 ) -> Result<(), AllocError>
     requires form { (ranges : List ℕ) × F.IsForm ranges form.now }
+    requires hint { IsHintFor F.hash_input form.now hint }
     requires absent { (i : ℕ) → outcome ≡ New i → position (F.eq form.now) (keys_of rows.old) ≡ None }
     requires within { (i : ℕ) → outcome ≡ Better i → i < length rows.old }
     requires never { entry.ever ≡ false }
@@ -110,7 +112,6 @@ fn write<F: StateForm + Drop>(
     match outcome {
         Outcome::New(_) => {
             let key = form.copy(*rows.allocator())?;
-            let hint = Hint::of(&key);
             rows.index_or_push(key, entry, hint)?;
         }
         Outcome::Better(index) => {
@@ -202,14 +203,6 @@ impl<F: StateForm + Drop> ClosedTable<F> {
         ensures fits { F.Fits self.now.ranges }
     {
         let _ = self.rows.len();
-    }
-
-    /// Makes room for `more` further states. Fails if allocation fails or a table cannot hold that many; the table is
-    /// unchanged in either case.
-    pub fn reserve(&mut self, more: usize) -> Result<(), AllocError>
-        ensures { self.new ≡ self.old }
-    {
-        self.rows.reserve(more)
     }
 
     /// Returns the form of the state at the index, or `None` past the last state.
@@ -310,7 +303,8 @@ impl<F: StateForm + Drop> ClosedTable<F> {
             return Err(AllocError);
         };
         self.sought.repack(&self.layout, state);
-        write(&mut self.rows, &self.sought, entry, outcome)
+        let hint = Hint::of(&self.sought);
+        write(&mut self.rows, &self.sought, entry, outcome, hint)
     }
 
     /// Hashes `form` and reads its first slots, and returns these as a hint for it. Reading those of all successors
@@ -330,6 +324,31 @@ impl<F: StateForm + Drop> ClosedTable<F> {
             result ≡ outcome_of self.now.nodes (fresh (F.values self.now.ranges form.now) rank parent) }
     {
         outcome_among(&self.rows, form, rank, hint)
+    }
+
+    /// Records that the state of a form was reached, with the outcome that `look_hinted` returned. The hint is one for
+    /// the form. Fails as `reach` does; the table is then unchanged.
+    pub fn reach_hinted(
+        &mut self,
+        form: &F,
+        rank: Rank,
+        parent: Option<Parent>,
+        outcome: Outcome,
+        hint: Hint,
+    ) -> Result<(), AllocError>
+        requires form { F.IsForm self.old.ranges form.now }
+        requires hint { IsHintFor F.hash_input form.now hint }
+        requires outcome { outcome ≡ outcome_of self.old.nodes (fresh (F.values self.old.ranges form.now) rank parent) }
+        ensures nodes { OnOk result (self.new.nodes ≡ reached self.old.nodes (fresh (F.values self.old.ranges form.now) rank parent)) }
+        ensures ever { OnOk result (self.new.ever ≡ padded self.old.ever (length self.new.nodes)) }
+        ensures ranges { self.new.ranges ≡ self.old.ranges }
+        ensures unchanged { OnErr result (self.new ≡ self.old) }
+        ensures refused { OnErr result ((outcome ≡ New (length self.old.nodes)) ⊎ IsPastEntry rank parent) }
+    {
+        let Some(entry) = SmallEntry::of(rank, parent) else {
+            return Err(AllocError);
+        };
+        write(&mut self.rows, form, entry, outcome, hint)
     }
 
     /// Returns whether the state of this form is in the table at this rank or a lesser one, so that reaching it again
@@ -360,8 +379,13 @@ impl<F: StateForm + Drop> ClosedTable<F> {
         ensures refused { OnErr result
             ((outcome_of self.old.nodes (fresh state.now rank parent) ≡ New (length self.old.nodes)) ⊎ IsPastEntry rank parent) }
     {
-        let outcome = self.look(state, rank);
-        self.reach(state, rank, parent, outcome)?;
+        let Some(entry) = SmallEntry::of(rank, parent) else {
+            return Err(AllocError);
+        };
+        self.sought.repack(&self.layout, state);
+        let hint = Hint::of(&self.sought);
+        let outcome = outcome_among(&self.rows, &self.sought, rank, hint);
+        write(&mut self.rows, &self.sought, entry, outcome, hint)?;
         Ok(outcome)
     }
 

@@ -4,3 +4,4 @@ pub mod Outcomes
 pub mod Queues
 pub mod Adding
 pub mod Currents
+pub mod Forms

@@ -3,8 +3,9 @@
 ghost use Rattle.std.specs.Prelude.{◌≡◌, ◌≢◌, true, false, ℕ, ◌<◌, ◌≤◌, ◌^◌, ◌++◌, ◌∷◌, [], length, map, fold, slice_get, slice_set, Some, List, All, Option, IfOk, OnOk, OnErr, IfSome, IfNone, IsTrue};
 ghost use Rattle.std.specs.List.Sorted.{IsPermutation};
 ghost use Rattle.cost.specs.Distances.{Distance, Finite, ◌+ᵈ◌};
-ghost use Rattle.fdr.specs.Tasks.{ranges, IsState};
+ghost use Rattle.fdr.specs.Tasks.{ranges};
 ghost use Rattle.owner_theory.specs.Owners.{At, Node, marked};
+ghost use Rattle.openlist.specs.BucketLists.{all_entries};
 ghost use Rattle.openlist.specs.declared.entry.OpenEntry.{OpenEntry as EntryOf};
 ghost use Rattle.closed.specs.declared.message.Parent.{Parent};
 ghost use Rattle.closed.specs.declared.table.Outcome.TheVariants.{Kept};
@@ -44,7 +45,8 @@ impl<'a, S: Spread + Drop, F: StateForm + Drop> Model for Reached<'a, S, F> {
 
     ghost view = { λ r. record { space = r.space.now; nodes = r.table.nodes; ever = r.table.ever } };
 
-    ghost invariant = { λ r. (r.table.ranges ≡ ranges r.space.now.task) × IsQueue r.space.now.ties (h_of r.space.now) r.table.nodes r.table.ever (all_entries r.queue) };
+    ghost invariant = { λ r. (r.table.ranges ≡ ranges r.space.now.task) × IsQueue r.space.now.ties
+        (h_of r.space.now) r.table.nodes r.table.ever (all_entries r.queue) };
 }
 
 /// Makes room for an entry of this f-value, if it is finite.
@@ -167,38 +169,32 @@ impl<'a, S: Spread + Drop, F: StateForm + Drop> Reached<'a, S, F> {
         self.space
     }
 
-    /// Returns the outcome that reaching a state at a rank would have. Changes nothing.
-    pub fn look(&mut self, state: &[u32], rank: Rank) -> Outcome
-        requires { IsState (ranges self.old.space.task) state.now }
-        ensures outcome { (parent : Option Parent) → result ≡ outcome_of self.old.nodes (fresh state.now rank parent) }
-        ensures same { self.new ≡ self.old }
-    {
-        self.table.look(state, rank)
-    }
-
-    /// Records that a state of this f-value was reached, with the outcome that `look` returned. On failure the states
-    /// are unchanged.
-    pub fn reach_at(
+    /// Records that the state of a form, with this f-value, was reached, with the outcome that `look_hinted` returned. The
+    /// hint is one for the form. On failure the states are unchanged.
+    fn reach_at(
         &mut self,
-        state: &[u32],
+        form: &F,
         rank: Rank,
         parent: Option<Parent>,
         outcome: Outcome,
+        hint: Hint,
         f: Dist,
     ) -> Result<(), AllocError>
-        requires state { IsState (ranges self.old.space.task) state.now }
-        requires outcome { outcome ≡ outcome_of self.old.nodes (fresh state.now rank parent) }
-        requires f { f ≡ Finite rank.cost +ᵈ h_of self.old.space state.now }
+        requires form { F.IsForm (ranges self.old.space.task) form.now }
+        requires hint { IsHintFor F.hash_input form.now hint }
+        requires outcome { outcome ≡ outcome_of self.old.nodes (fresh (F.values (ranges self.old.space.task) form.now) rank parent) }
+        requires f { f ≡ Finite rank.cost +ᵈ h_of self.old.space (F.values (ranges self.old.space.task) form.now) }
         requires cost { rank.cost ≤ max_total }
         requires steps { rank.steps ≤ max_total }
-        ensures nodes { OnOk result (self.new.nodes ≡ reached self.old.nodes (fresh state.now rank parent)) }
+        ensures nodes { OnOk result (self.new.nodes
+            ≡ reached self.old.nodes (fresh (F.values (ranges self.old.space.task) form.now) rank parent)) }
         ensures ever { OnOk result (self.new.ever ≡ padded self.old.ever (length self.new.nodes)) }
         ensures space { self.new.space ≡ self.old.space }
         ensures unchanged { OnErr result (self.new ≡ self.old) }
     {
         let f = f.get();
         make_room(&mut self.queue, f)?;
-        self.table.reach(state, rank, parent, outcome)?;
+        self.table.reach_hinted(form, rank, parent, outcome, hint)?;
         let ties = self.space.ties();
         put_in(&mut self.queue, &self.table, ties, f, rank, outcome);
         if let Outcome::Better(_) = outcome {
@@ -207,15 +203,17 @@ impl<'a, S: Spread + Drop, F: StateForm + Drop> Reached<'a, S, F> {
         Ok(())
     }
 
-    /// Records that a state was reached. The heuristic is computed only if this changes something. On failure the
-    /// states are unchanged.
+    /// Records that the state of a form was reached. `state` is the form's values, for the heuristic, which is computed
+    /// only if this changes something. On failure the states are unchanged.
     pub fn reach(
         &mut self,
+        form: &F,
         state: &[u32],
         rank: Rank,
         parent: Option<Parent>,
     ) -> Result<(), AllocError>
-        requires state { IsState (ranges self.old.space.task) state.now }
+        requires form { F.IsForm (ranges self.old.space.task) form.now }
+        requires values { F.values (ranges self.old.space.task) form.now ≡ state.now }
         requires cost { rank.cost ≤ max_total }
         requires steps { rank.steps ≤ max_total }
         ensures nodes { OnOk result (self.new.nodes ≡ reached self.old.nodes (fresh state.now rank parent)) }
@@ -224,13 +222,22 @@ impl<'a, S: Spread + Drop, F: StateForm + Drop> Reached<'a, S, F> {
         ensures unchanged { OnErr result (self.new ≡ self.old) }
     {
         self.recall(); // there is a bit for each state
-        match self.look(state, rank) {
+        let hint = self.table.hint(form);
+        match self.look_hinted(form, rank, hint) {
             Outcome::Kept => Ok(()),
             outcome => {
                 let f = self.space.f(state, rank.cost);
-                self.reach_at(state, rank, parent, outcome, f)
+                self.reach_at(form, rank, parent, outcome, hint, f)
             }
         }
+    }
+
+    /// Returns the open list. Its entries are keyed by the tie-breaking rule and by whether their nodes were ever
+    /// expanded. Entries other than the first may be stale: those of nodes that have since been improved or expanded.
+    pub fn queue(&self) -> &Buckets
+        ensures { IsQueue self.now.space.ties (h_of self.now.space) self.now.nodes self.now.ever (all_entries result.now) }
+    {
+        &self.queue
     }
 
     /// Returns the entry of the open node that is to be expanded next, or `None` if no node is open.
@@ -258,7 +265,8 @@ impl<'a, S: Spread + Drop, F: StateForm + Drop> Reached<'a, S, F> {
         requires fs { map (λ m. Finite m.rank.cost +ᵈ h_of self.old.space (F.values (ranges self.old.space.task) m.state)) messages.now ≡ map Finite fs.now }
         requires bound { All (λ f. f ≤ 2 ^ 63) fs.now }
         requires small { All (λ m. (m.rank.cost ≤ max_total) × (m.rank.steps ≤ max_total)) messages.now }
-        ensures nodes { OnOk result ((e : EntryOf) (n : Node) → IsLeast self.old.space.ties (h_of self.old.space) self.old.nodes self.old.ever e → At self.old.nodes e.index n →
+        ensures nodes { OnOk result ((e : EntryOf) (n : Node) →
+            IsLeast self.old.space.ties (h_of self.old.space) self.old.nodes self.old.ever e → At self.old.nodes e.index n →
             self.new.nodes ≡ fold reached (slice_set self.old.nodes e.index (marked n)) (map (arrival (F.values (ranges self.old.space.task))) messages.now)) }
         ensures ever { OnOk result ((e : EntryOf) → IsLeast self.old.space.ties (h_of self.old.space) self.old.nodes self.old.ever e →
             self.new.ever ≡ padded (slice_set self.old.ever e.index true) (length self.new.nodes)) }
