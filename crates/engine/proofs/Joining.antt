@@ -15,7 +15,7 @@ use Rattle.owner_theory.specs.Threads.{IsWorker, AreJoined}
 use Rattle.owner_theory.proofs.Distances.{least_of_at_most}
 use Rattle.owner_theory.proofs.Joins.{begins, joined_lawful}
 use Rattle.owner.specs.Spaces.{searched}
-use Rattle.owner.specs.Owned.{OwnerOf, max_total, space_of}
+use Rattle.owner.specs.Owned.{OwnerOf, IsLogOf, max_total, space_of}
 use Rattle.extract.specs.Ends.{EndOf, IsForm, IsEndOf}
 use Rattle.extract.proofs.Leasts.{at_most_least_of}
 use Rattle.extract.proofs.Places.{all_at, at_below, at_read, at_some}
@@ -156,19 +156,21 @@ module _ {S F : Type 0} (owner : S → List ℕ → ℕ → ℕ) (values : List 
     owners = map (λ w. w.owner) t.workers
 
     -- ---- the end
-    of_owner : (v : ℕ) (o : OwnerOf S) → At owners v o → (bound : Distance) × ((logs v).owner ≡ record { nodes = o.nodes; outboxes = o.outboxes; bound = bound; best = o.best })
+    of_owner : (v : ℕ) (o : OwnerOf S) → At owners v o → (bound : Distance) × IsLogOf (logs v) o bound
     of_owner v o at =
         let (w, at_w, is) = at_map (λ (w : WorkerOf S F). w.owner) t.workers v o at in
-        (w.bound, (chosen.each v w at_w).owner_is ∙ (λ j. let after : machine.Owner = record { nodes = (is j).nodes; outboxes = (is j).outboxes; bound = w.bound; best = (is j).best } in after))
+        (w.bound, subst (λ (x : OwnerOf S). IsLogOf (logs v) x w.bound) is (chosen.each v w at_w).log_is)
 
     end_is : IsEndOf owner (record { space = t.space; owners = owners; left = [] }) family
     end_is = record {
       lawful = subst (λ k. IsLawful (searched owner t.space k) family) (sym (length-map t.workers (λ (w : WorkerOf S F). w.owner)))
           (joined_lawful space family sent received (λ w v. []) (λ w. []) aside ok joined);
-      nodes = λ v o at. ap (λ (x : machine.Owner). x.nodes) (of_owner v o at).1;
-      outboxes = λ v o at. ap (λ (x : machine.Owner). x.outboxes) (of_owner v o at).1;
-      best = λ v o at. ap (λ (x : machine.Owner). x.best) (of_owner v o at).1;
+      nodes = λ v o at. ap (λ (x : machine.Owner). x.nodes) (of_owner v o at).1.owner;
+      outboxes = λ v o at. ap (λ (x : machine.Owner). x.outboxes) (of_owner v o at).1.owner;
+      best = λ v o at. ap (λ (x : machine.Owner). x.best) (of_owner v o at).1.owner;
       left = IsPermutation-refl [];
+      counted = λ v o at. (of_owner v o at).1.counted;
+      allowed = λ v o at. (of_owner v o at).1.allowed;
     }
 
   -- ---- what the end of a search needs

@@ -83,7 +83,8 @@ fn empty_ring<'a, S: Spread + Drop, F: StateForm + Drop>(
     requires to { to ≤ length others.old.items }
     requires members { (space : SpaceOf S) × AreMembers space (insert others.old.items to receiver.old) }
     requires none_aside { receiver.old.misfits ≡ [] }
-    ensures { IfOk result (λ _. IsLinkEmptied S.owner (values_in F.values receiver.old) from to (insert others.old.items to receiver.old) (insert others.new.items to receiver.new)) }
+    ensures { IfOk result (λ _. IsLinkEmptied S.owner (values_in F.values receiver.old) from to
+        (insert others.old.items to receiver.old) (insert others.new.items to receiver.new)) }
 {
     let waiting = match_link(others, receiver, from, to);
     for _ in 0..waiting {
@@ -105,7 +106,8 @@ fn empty_rings<'a, S: Spread + Drop, F: StateForm + Drop>(
 ) -> Result<(), AllocError>
     requires to { to ≤ length others.old.items }
     requires members { (space : SpaceOf S) × AreMembers space (insert others.old.items to receiver.old) }
-    ensures { IfOk result (λ _. AreLinksEmptied S.owner (values_in F.values receiver.old) (length (insert others.old.items to receiver.old)) to (insert others.old.items to receiver.old) (insert others.new.items to receiver.new)) }
+    ensures { IfOk result (λ _. AreLinksEmptied S.owner (values_in F.values receiver.old) (length (insert others.old.items to receiver.old)) to
+        (insert others.old.items to receiver.old) (insert others.new.items to receiver.new)) }
 {
     match_links(others, receiver, to);
     for from in 0..receiver.workers() {
@@ -121,7 +123,8 @@ fn empty_rings_to<S: Spread + Drop, F: StateForm + Drop>(
 ) -> Result<(), AllocError>
     requires to { to < length workers.old.items }
     requires members { (space : SpaceOf S) × AreMembers space workers.old.items }
-    ensures { IfOk result (λ _. (space : SpaceOf S) → AreMembers space workers.old.items → AreLinksEmptied S.owner (F.values (ranges space.task)) (length workers.old.items) to workers.old.items workers.new.items) }
+    ensures { IfOk result (λ _. (space : SpaceOf S) → AreMembers space workers.old.items →
+        AreLinksEmptied S.owner (F.values (ranges space.task)) (length workers.old.items) to workers.old.items workers.new.items) }
 {
     let mut receiver = workers.remove(to);
     empty_rings(workers, &mut receiver, to)?;
@@ -134,7 +137,8 @@ fn empty_all<S: Spread + Drop, F: StateForm + Drop>(
     workers: &mut Vec<Worker<'_, S, F>>,
 ) -> Result<(), AllocError>
     requires { (space : SpaceOf S) × AreMembers space workers.old.items }
-    ensures { IfOk result (λ _. (space : SpaceOf S) → AreMembers space workers.old.items → AreDrained S.owner (F.values (ranges space.task)) (length workers.old.items) workers.old.items workers.new.items) }
+    ensures { IfOk result (λ _. (space : SpaceOf S) → AreMembers space workers.old.items →
+        AreDrained S.owner (F.values (ranges space.task)) (length workers.old.items) workers.old.items workers.new.items) }
 {
     for to in 0..workers.len() {
         empty_rings_to(workers, to)?;

@@ -1,12 +1,12 @@
 -- The end of a search by owners: the owners and the messages not taken, at the end of a lawful family.
-use Rattle.std.specs.Prelude.{◌≡◌, ℕ, ◌<◌, ◌≤◌, ◌⊎◌, true, false, List, length, map, Option, Some, None, All}
+use Rattle.std.specs.Prelude.{◌≡◌, ℕ, ◌<◌, ◌≤◌, ◌⊎◌, true, false, List, length, map, Option, Some, None, IfSome, All}
 use Rattle.std.specs.List.Sorted.{IsPermutation}
 use Rattle.cost.specs.Distances.{Distance, Finite, Infinite, ◌≤ᵈ◌, least}
 use Rattle.fdr.specs.Tasks.{ranges, IsState, is_goal_state}
 use Rattle.owner_theory.specs.Owners.{At, SearchSpace, Node, Packet, Message, f_value}
 use Rattle.owner_theory.specs.Families.{Family, IsLawful}
 use Rattle.owner.specs.Spaces.{SpaceOf, searched}
-use Rattle.owner.specs.Owned.{OwnerOf, max_total}
+use Rattle.owner.specs.Owned.{OwnerOf, counted_under, max_total}
 use Rattle.extract.specs.declared.answer.SearchAnswer.{SearchAnswer}
 use Rattle.extract.specs.declared.answer.SearchAnswer.TheVariants.{Solved, Unsolvable}
 
@@ -26,13 +26,16 @@ pub record IsForm {S : Type 0} (e : EndOf S) : Type 0 where
   pub each : (v : ℕ) (o : OwnerOf S) → At e.owners v o → (o.space ≡ e.space) × (o.worker ≡ v) × (length o.outboxes ≡ length e.owners)
   pub left : All (λ p. IsState (ranges e.space.task) p.message.state × (p.message.cost ≤ max_total)) e.left
 
--- a lawful family ends with these owners and leaves these messages
+-- a lawful family ends with these owners and leaves these messages; each owner has counted its expansions if it has a
+-- limit, and these are at most as many as that allows
 pub record IsEndOf {S : Type 0} (owner : S → List ℕ → ℕ → ℕ) (e : EndOf S) (family : Family) : Type 0 where
   pub lawful : IsLawful (space_at owner e) family
   pub nodes : (v : ℕ) (o : OwnerOf S) → At e.owners v o → (family.logs v).owner.nodes ≡ o.nodes
   pub outboxes : (v : ℕ) (o : OwnerOf S) → At e.owners v o → (family.logs v).owner.outboxes ≡ o.outboxes
   pub best : (v : ℕ) (o : OwnerOf S) → At e.owners v o → (family.logs v).owner.best ≡ o.best
   pub left : IsPermutation family.left e.left
+  pub counted : (v : ℕ) (o : OwnerOf S) → At e.owners v o → o.expansions ≡ counted_under o.space.limit (family.logs v).expansions
+  pub allowed : (v : ℕ) (o : OwnerOf S) → At e.owners v o → IfSome o.space.limit (λ limit. (family.logs v).expansions ≤ limit)
 
 -- the bound is at most the message's f-value
 abbrev pub IsMessageAbove : SearchSpace → Distance → Message → Type 0

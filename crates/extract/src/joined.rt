@@ -27,7 +27,8 @@ pub struct Joined<'a, S: Spread + Drop, F: StateForm + Drop> {
     owners: Vec<Owner<'a, S, F>>,
     /// The messages not taken, in a queue for each owner, the oldest first.
     left: Vec<VecDeque<Packet<F>>>,
-    ghost lawful: { ∥ ((family : Family) × IsEndOf S.owner (record { space = space.now; owners = owners.items; left = all_packets (F.values (ranges space.now.task)) left.items }) family) ∥₁ },
+    ghost lawful: { ∥ ((family : Family) × IsEndOf S.owner
+        (record { space = space.now; owners = owners.items; left = all_packets (F.values (ranges space.now.task)) left.items }) family) ∥₁ },
     ghost form: { IsForm (record { space = space.now; owners = owners.items; left = all_packets (F.values (ranges space.now.task)) left.items }) },
 }
 
@@ -48,7 +49,8 @@ impl<'a, S: Spread + Drop, F: StateForm + Drop> Joined<'a, S, F> {
         owners: Vec<Owner<'a, S, F>>,
         left: Vec<VecDeque<Packet<F>>>,
     ) -> Joined<'a, S, F>
-        requires lawful { ∥ ((family : Family) × IsEndOf S.owner (record { space = space.now; owners = owners.items; left = all_packets (F.values (ranges space.now.task)) left.items }) family) ∥₁ }
+        requires lawful { ∥ ((family : Family) × IsEndOf S.owner
+            (record { space = space.now; owners = owners.items; left = all_packets (F.values (ranges space.now.task)) left.items }) family) ∥₁ }
         requires form { IsForm (record { space = space.now; owners = owners.items; left = all_packets (F.values (ranges space.now.task)) left.items }) }
         ensures { result ≡ record { space = space.now; owners = owners.entry.items; left = all_packets (F.values (ranges space.now.task)) left.items } }
     {

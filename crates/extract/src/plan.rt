@@ -38,7 +38,8 @@ pub fn plan_of<'a, S: Spread + Drop, F: StateForm + Drop>(
 ) -> Result<Vec<usize>, AllocError>
     requires { IsBestGoal joined.now (Some goal) }
     ensures plan { IfOk result (λ plan. IsPlan joined.now.space.task plan.items) }
-    ensures cost { (cost : ℕ) → IsSettledAt (space_at S.owner joined.now) joined.now.owners joined.now.left (Finite cost) → IfOk result (λ plan. plan_cost joined.now.space.task plan.items ≡ cost) }
+    ensures cost { (cost : ℕ) → IsSettledAt (space_at S.owner joined.now) joined.now.owners joined.now.left (Finite cost) →
+        IfOk result (λ plan. plan_cost joined.now.space.task plan.items ≡ cost) }
     ensures bound { (n : Node) → IsGoalNodeAt joined.now goal.0 goal.1 n → IfOk result (λ plan. plan_cost joined.now.space.task plan.items ≤ n.cost) }
 {
     joined.recall();

@@ -99,7 +99,8 @@ fn least_pending<S: Spread + Drop, F: StateForm + Drop>(
     requires fits { F.Fits (ranges space.now.task) }
     requires form { IsForm (record { space = space.now; owners = owners.now; left = all_packets (F.values (ranges space.now.task)) left.now }) }
     requires buffer { length state.old ≡ length space.now.task.value_names }
-    ensures { result ≡ least_pending S.owner (record { space = space.now; owners = owners.now; left = all_packets (F.values (ranges space.now.task)) left.now }) }
+    ensures { result ≡ least_pending S.owner
+        (record { space = space.now; owners = owners.now; left = all_packets (F.values (ranges space.now.task)) left.now }) }
 {
     let mut least = Dist::inf();
     for owner in owners {
@@ -132,7 +133,8 @@ pub fn settled_bound<'a, S: Spread + Drop, F: StateForm + Drop>(
     left: &[VecDeque<Packet<F>>],
 ) -> Result<Option<Dist>, AllocError>
     requires { IsForm (record { space = space.now; owners = owners.now; left = all_packets (F.values (ranges space.now.task)) left.now }) }
-    ensures { IfOk result (IsSettledAnswer (searched S.owner space.now (length owners.now)) owners.now (all_packets (F.values (ranges space.now.task)) left.now)) }
+    ensures { IfOk result
+        (IsSettledAnswer (searched S.owner space.now (length owners.now)) owners.now (all_packets (F.values (ranges space.now.task)) left.now)) }
 {
     let mut state = vec![in alloc; 0u32; space.task().variable_count()]?;
     owners[0].recall(); // states of the task have the form
@@ -164,7 +166,8 @@ pub(crate) fn lower_bound<'a, S: Spread + Drop, F: StateForm + Drop>(
     left: &[VecDeque<Packet<F>>],
 ) -> Result<Dist, AllocError>
     requires { IsForm (record { space = space.now; owners = owners.now; left = all_packets (F.values (ranges space.now.task)) left.now }) }
-    ensures { IfOk result (λ bound. bound ≡ lower_bound S.owner (record { space = space.now; owners = owners.now; left = all_packets (F.values (ranges space.now.task)) left.now })) }
+    ensures { IfOk result (λ bound. bound
+        ≡ lower_bound S.owner (record { space = space.now; owners = owners.now; left = all_packets (F.values (ranges space.now.task)) left.now })) }
 {
     let mut state = vec![in alloc; 0u32; space.task().variable_count()]?;
     owners[0].recall(); // states of the task have the form

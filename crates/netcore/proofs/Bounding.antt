@@ -12,6 +12,7 @@ use Rattle.owner_theory.specs.Owners.{At, Owner, Look as Looking, Offer as Offer
 use Rattle.owner_theory.specs.Worlds.{World, Offers, Looks, Rests, idle}
 use Rattle.owner_theory.proofs.Lists.{put_cases, at_once}
 use Rattle.owner.specs.Owned.{OwnerOf, under}
+use Rattle.owner.proofs.Logs.{log_after}
 use Rattle.netcore.specs.declared.step.WorldStep.TheVariants.{Offer, Look, Rest}
 use Rattle.netcore.specs.Worlds.{WorldOf, space_in, Shows, Steps, differ}
 use Rattle.netcore.specs.Kept.{IsStepDone, IsWorld}
@@ -29,7 +30,8 @@ module _ {S : Type 0} (owner : S → List ℕ → ℕ → ℕ) where
     does = refl;
     shown = shown owner old (record old { bound = bound }) world v (happens (space_in owner old) v (world.logs v) Offering) world.underway
         (lesser world.bound (world.logs v).owner.best) world.resting shows refl refl
-        (λ o b at seen. shows.owners v o b at seen)
+        (λ o b at seen. let log = shows.owners v o b at seen in
+        log_after (world.logs v) (happens (space_in owner old) v (world.logs v) Offering) o o b b log log.owner refl refl refl)
         (λ u o b ne at seen. (at, seen))
         (shows.others v) shows.underway is shows.resting;
   }
@@ -42,7 +44,7 @@ module _ {S : Type 0} (owner : S → List ℕ → ℕ → ℕ) where
   offered_best : (old : WorldOf S) (v : ℕ) (o : OwnerOf S) (b : Distance) (world : World) → At old.owners v o → At old.seen v b
       → Shows owner old world → lesser world.bound (world.logs v).owner.best ≡ lesser old.bound o.best
   offered_best old v o b world at seen shows = ap (λ x. lesser x (world.logs v).owner.best) shows.bound
-      ∙ ap (λ (w : Owner). lesser old.bound w.best) (shows.owners v o b at seen)
+      ∙ ap (λ (w : Owner). lesser old.bound w.best) (shows.owners v o b at seen).owner
 
   pub offer_none : (old : WorldOf S) (v : ℕ) (o : OwnerOf S) (b : Distance) → At old.owners v o → At old.seen v b
       → is_below o.best old.bound ≡ false → IsStepDone owner old old (Offer v) false
@@ -57,6 +59,7 @@ module _ {S : Type 0} (owner : S → List ℕ → ℕ → ℕ) where
         ∙ lesser_right old.bound o.best (below_is_at_most o.best old.bound (is_below-true o.best old.bound less)));
     changed_is = sym (at_owner_here owner old v o b _ at seen ∙ less);
     unchanged = λ e. absurd (true≢false e);
+    limited = refl;
     space = refl;
     owners = refl;
   }
@@ -79,8 +82,10 @@ module _ {S : Type 0} (owner : S → List ℕ → ℕ → ℕ) where
     shown = shown owner old (record old { seen = seen }) world v (happens (space_in owner old) v (world.logs v) (Looking world.bound))
         world.underway world.bound world.resting shows refl refl
         (λ o c at at_c. let (b, at_b, is) = here o c at at_c in
-        ap (λ (w : Owner). let after : Owner = record { nodes = w.nodes; outboxes = w.outboxes; bound = world.bound; best = w.best } in after)
-        (shows.owners v o b at at_b) ∙ ap (λ z. under o z) (shows.bound ∙ sym is))
+        let log = shows.owners v o b at at_b in
+        log_after (world.logs v) (happens (space_in owner old) v (world.logs v) (Looking world.bound)) o o b c log
+        (ap (λ (w : Owner). let after : Owner = record { nodes = w.nodes; outboxes = w.outboxes; bound = world.bound; best = w.best } in after) log.owner
+        ∙ ap (λ z. under o z) (shows.bound ∙ sym is)) refl refl refl)
         (λ u o c ne at at_c. (at, there u c ne at_c))
         (λ le. let void = shows.others v le in record { nodes = void.nodes; outboxes = void.outboxes; best = void.best })
         shows.underway shows.bound shows.resting;
@@ -107,6 +112,7 @@ module _ {S : Type 0} (owner : S → List ℕ → ℕ → ℕ) where
         (λ p c there at_c. (b, seen, sym (set_there old.seen v old.bound c at_c)));
     changed_is = sym (at_owner_here owner old v o b _ at seen ∙ other);
     unchanged = λ e. absurd (true≢false e);
+    limited = refl;
     space = refl;
     owners = refl;
   }
@@ -165,7 +171,7 @@ module _ {S : Type 0} (owner : S → List ℕ → ℕ → ℕ) where
         step = Rests v;
         does = refl;
         shown = cond_both (idle (space_in owner old) (world.logs v).owner) (record world { resting = put world.resting v true }) world (Shows owner old)
-            (λ idles. absurd (true≢false (sym idles ∙ (ap (idle (space_in owner old)) (shows.owners v o b at seen) ∙ busy))))
+            (λ idles. absurd (true≢false (sym idles ∙ (ap (idle (space_in owner old)) (shows.owners v o b at seen).owner ∙ busy))))
             (λ _. shows);
       })
 
@@ -177,10 +183,11 @@ module _ {S : Type 0} (owner : S → List ℕ → ℕ → ℕ) where
         (λ (h : (u ≡ v) × (true ≡ r)). put_cases world.resting v true u (λ y. y ≡ r) (λ _. h.1) (λ ne. absurd (eqb-false u v ne h.0)))
         (λ (h : (u ≢ v) × At old.resting u r). put_cases world.resting v true u (λ y. y ≡ r) (λ e. absurd (h.0 e)) (λ _. shows.resting u r h.1))
         (at_set old.resting v true u r there))
-        (λ u r there busy. absurd (true≢false (sym idles ∙ (sym (ap (idle (space_in owner old)) (shows.owners v o b at seen)) ∙ busy))));
+        (λ u r there busy. absurd (true≢false (sym idles ∙ (sym (ap (idle (space_in owner old)) (shows.owners v o b at seen).owner) ∙ busy))));
     changed_is = sym (at_owner_here owner old v o b _ at seen ∙ and_from _ _
         (ap (λ x. option_map_or not x false) (at_read old.resting v false awake)) idles);
     unchanged = λ e. absurd (true≢false e);
+    limited = refl;
     space = refl;
     owners = refl;
   }

@@ -102,7 +102,7 @@ module _ {S : Type 0} (owner : S → List ℕ → ℕ → ℕ) where
       let busy_is = sym (from_all world (length w.owners)) ∙ busy_of world 0 w.owners w.resting is.flags
       (λ v o at. let (b, seen) = bound_at v o at in
       let same : v ≡ 0 + v = omega arith in
-      subst (λ k. (world.logs k).owner.outboxes ≡ o.outboxes) same (ap (λ (x : machine.Owner). x.outboxes) (shows.owners v o b at seen)))
+      subst (λ k. (world.logs k).owner.outboxes ≡ o.outboxes) same (ap (λ (x : machine.Owner). x.outboxes) (shows.owners v o b at seen).owner))
       (λ v r at. let same : v ≡ 0 + v = omega arith in subst (λ k. world.resting k ≡ r) same (shows.resting v r at)) in
       omega arith
 

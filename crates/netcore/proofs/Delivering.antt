@@ -13,7 +13,8 @@ use Rattle.owner_theory.specs.Owners.{At, SearchSpace, Message, Packet, Log, Own
 use Rattle.owner_theory.specs.Worlds.{World, Delivers, nth_to, without_nth_to, delivered}
 use Rattle.owner_theory.proofs.Lists.{put_cases, get_below}
 use Rattle.owner_theory.proofs.States.{is_state-from}
-use Rattle.owner.specs.Owned.{OwnerOf, under, space_of, IsMessageTo}
+use Rattle.owner.specs.Owned.{OwnerOf, IsLogOf, under, space_of, IsMessageTo}
+use Rattle.owner.proofs.Logs.{log_after}
 use Rattle.owner.specs.declared.fault.OwnerFault.TheVariants.{OutOfMemory}
 use Rattle.netcore.specs.declared.step.WorldStep.TheVariants.{Deliver}
 use Rattle.netcore.specs.Worlds.{WorldOf, space_in, packets_to, Shows, Steps}
@@ -76,21 +77,27 @@ module _ {S : Type 0} (owner : S → List ℕ → ℕ → ℕ) where
     pub after : (bound : Distance) → under p bound ≡ took (space_of owner o) (under o bound) x.message
     pub space : p.space ≡ o.space
     pub worker : p.worker ≡ o.worker
+    pub expansions : p.expansions ≡ o.expansions
 
   pub message_fits : (old : WorldOf S) (v k : ℕ) (q : List Packet) (x : Packet) → IsWorld owner old → At old.underway v q → slice_get q k ≡ Some x
       → IsMessageTo (space_in owner old) v x.message
   message_fits old v k q x is queue nth = all_get (λ (p : Packet). IsMessageTo (space_in owner old) v p.message) q k x nth (is.messages v q queue)
 
-  log_after : (old : WorldOf S) (v k : ℕ) (o p : OwnerOf S) (b : Distance) (q : List Packet) (x : Packet) (world : World) → IsWorld owner old
+  log_taken : (old : WorldOf S) (v k : ℕ) (o p : OwnerOf S) (b : Distance) (q : List Packet) (x : Packet) (world : World) → IsWorld owner old
       → Shows owner old world → IsTaking old v k o p b q x
-      → (happens (space_in owner old) v (world.logs v) (Take x.sender x.message)).owner ≡ under p b
-  log_after old v k o p b q x world is shows taking =
+      → IsLogOf (happens (space_in owner old) v (world.logs v) (Take x.sender x.message)) p b
+  log_taken old v k o p b q x world is shows taking =
       let space = space_in owner old in
       let l = world.logs v in
-      ap (λ (c : Bool). let after : Log = cond c (record l { owner = took space l.owner x.message; taken = x ∷ l.taken }) l in after.owner)
-      (fits_from space v x.message (message_fits old v k q x is taking.queue taking.nth))
-      ∙ (ap (λ w. took space w x.message) (shows.owners v o b taking.at taking.seen)
-      ∙ (ap (λ s. took s (under o b) x.message) (sym (owner_space owner old v o is taking.at)) ∙ sym (taking.after b)))
+      let log = shows.owners v o b taking.at taking.seen in
+      let takes : happens space v l (Take x.sender x.message) ≡ record l { owner = took space l.owner x.message; taken = x ∷ l.taken } =
+      ap (λ (c : Bool). let after : Log = cond c (record l { owner = took space l.owner x.message; taken = x ∷ l.taken }) l in after)
+      (fits_from space v x.message (message_fits old v k q x is taking.queue taking.nth)) in
+      log_after l (happens space v l (Take x.sender x.message)) o p b b log
+      (ap (λ (z : Log). z.owner) takes
+      ∙ (ap (λ w. took space w x.message) log.owner
+      ∙ (ap (λ s. took s (under o b) x.message) (sym (owner_space owner old v o is taking.at)) ∙ sym (taking.after b))))
+      (ap (λ (z : Log). z.expansions) takes) taking.space taking.expansions
 
   queues_after : (old : WorldOf S) (v k : ℕ) (q : List Packet) (world : World) → Shows owner old world → At old.underway v q
       → (u : ℕ) (ps : List Packet) → At (slice_set old.underway v (remove q k)) u ps
@@ -129,7 +136,7 @@ module _ {S : Type 0} (owner : S → List ℕ → ℕ → ℕ) where
                   (shown owner old new world v (happens space v (world.logs v) (Take x.sender x.message)) (without_nth_to space v k world.underway)
                   world.bound (put world.resting v false) shows refl (length-set old.owners v p)
                   (here_one owner old v p b (happens space v (world.logs v) (Take x.sender x.message)) taking.seen
-                  (log_after old v k o p b q x world is shows taking))
+                  (log_taken old v k o p b q x world is shows taking))
                   (there_one owner old v p)
                   (λ le. let lt = at_below old.owners v o taking.at in absurd (omega arith))
                   (queues_after old v k q world shows taking.queue)
@@ -137,6 +144,7 @@ module _ {S : Type 0} (owner : S → List ℕ → ℕ → ℕ) where
             };
         changed_is = sym (ap (λ (z : List Packet). nat_lt k (length z)) (at_list old.underway v q taking.queue) ∙ lt-ltb k (length q) short);
         unchanged = λ e. absurd (true≢false e);
+        limited = refl;
         space = refl;
         owners = length-set old.owners v p;
       }

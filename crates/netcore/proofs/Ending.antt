@@ -128,9 +128,11 @@ module _ {S : Type 0} (owner : S → List ℕ → ℕ → ℕ) where
       λ v o at. at_some w.seen v (let lt = at_below w.owners v o at in let n = is.bounds in omega arith) in
       record {
         lawful = lawful space world sp (run_ok space after.steps sp);
-        nodes = λ v o at. let (b, seen) = bound_at v o at in ap (λ (x : machine.Owner). x.nodes) (after.shown.owners v o b at seen);
-        outboxes = λ v o at. let (b, seen) = bound_at v o at in ap (λ (x : machine.Owner). x.outboxes) (after.shown.owners v o b at seen);
-        best = λ v o at. let (b, seen) = bound_at v o at in ap (λ (x : machine.Owner). x.best) (after.shown.owners v o b at seen);
+        nodes = λ v o at. let (b, seen) = bound_at v o at in ap (λ (x : machine.Owner). x.nodes) (after.shown.owners v o b at seen).owner;
+        outboxes = λ v o at. let (b, seen) = bound_at v o at in ap (λ (x : machine.Owner). x.outboxes) (after.shown.owners v o b at seen).owner;
+        best = λ v o at. let (b, seen) = bound_at v o at in ap (λ (x : machine.Owner). x.best) (after.shown.owners v o b at seen).owner;
+        counted = λ v o at. let (b, seen) = bound_at v o at in (after.shown.owners v o b at seen).counted;
+        allowed = λ v o at. let (b, seen) = bound_at v o at in (after.shown.owners v o b at seen).allowed;
         left = left_of w world is sp.owner after.shown;
       }
 

@@ -1,5 +1,5 @@
 -- Expanding a node, and owners that are changed.
-use Rattle.std.proofs.Common.{◌≡◌, ◌≢◌, ℕ, zero, suc, ◌≤◌, Bool, true, false, not, ◌||◌, List, [], ◌∷◌, length, Option, Some, None, refl, sym, ap, ◌∙◌, subst, inl, inr, ⊎_elim, arith, is_some}
+use Rattle.std.proofs.Common.{◌≡◌, ◌≢◌, ℕ, zero, suc, ◌+◌, ◌≤◌, Bool, true, false, not, ◌||◌, List, [], ◌∷◌, length, Option, Some, None, refl, sym, ap, ◌∙◌, subst, inl, inr, ⊎_elim, arith, is_some}
 use Rattle.std.specs.Prelude.{slice_get, slice_set}
 use Rattle.std.specs.List.{list_all}
 use Rattle.std.specs.Option.{option_map_or}
@@ -8,12 +8,14 @@ use Rattle.std.proofs.lemmas.List.{length-set}
 use Rattle.std.proofs.lemmas.Bool.{true≢false, cases_Bool, and_parts, and_from, and_left, and_right, or_cases, or_left, or_right, or_from, not-true, not_from_false}
 use Rattle.cost.specs.Distances.{Distance, Infinite, is_at_most}
 use Rattle.cost.proofs.DistanceLaws.{at_most_through, at_most_infinite, is_at_most-true, is_at_most-from, is_at_most-false, below_is_at_most}
-use Rattle.owner_theory.specs.Owners.{At, SearchSpace, Node, Owner, Log, Expand as Expanding, f_value, may_expand, expanded_at, happens}
+use Rattle.owner_theory.specs.Owners.{At, SearchSpace, Node, Owner, Log, Expand as Expanding, f_value, count_at, expanded_at, happens}
 use Rattle.owner_theory.specs.Worlds.{World, Expands, no_open, MayExpandAt}
 use Rattle.owner_theory.proofs.Lists.{at_once}
+use Rattle.owner.proofs.NextNodes.{next_may, next_open}
+use Rattle.owner.proofs.Logs.{log_expanded}
 use Rattle.owner.specs.Spaces.{searched}
 use Rattle.owner.specs.Owned as owned
-use Rattle.owner.specs.Owned.{OwnerOf, under, space_of, IsNext, is_open, goes_before, IsExpansion, IsRefusal}
+use Rattle.owner.specs.Owned.{OwnerOf, IsLogOf, under, space_of, IsNext, IsExpansion, IsRefusal}
 use Rattle.owner_space.specs.declared.ties.Ties.{Ties}
 use Rattle.owner.specs.declared.fault.OwnerFault.{OwnerFault}
 use Rattle.owner.specs.declared.fault.OwnerFault.TheVariants.{OutOfMemory, TotalTooLarge, LimitReached}
@@ -24,54 +26,8 @@ use Rattle.netcore.specs.Kept.{IsStepDone, IsStepRefused, IsWorld}
 use Rattle.netcore.proofs.Places.{at_below, at_read, at_set, set_same, set_there, set_elsewhere}
 use Rattle.netcore.proofs.Shown.{shown, shown_same, nothing_done, kept, run_after}
 
--- ---- nodes
-all_from : (test : Node → Bool) (ns : List Node) → ((i : ℕ) (x : Node) → At ns i x → test x ≡ true) → list_all test ns ≡ true
-all_from test [] h = refl
-all_from test (x ∷ ns) h = and_from _ _ (h zero x refl) (all_from test ns (λ i y at. h (suc i) y at))
-
-one_fails : (test : Node → Bool) (ns : List Node) (i : ℕ) (x : Node) → At ns i x → test x ≡ false → list_all test ns ≡ false
-one_fails test [] i x at e = absurd at
-one_fails test (y ∷ ns) zero x at e = and_left _ _ (ap test at ∙ e)
-one_fails test (y ∷ ns) (suc i) x at e = and_right _ _ (one_fails test ns i x at e)
-
--- what comes first is of least f-value
-first_is_least : (ties : Ties) (space : SearchSpace) (ever : List Bool) (i : ℕ) (n : Node) (j : ℕ) (x : Node) → goes_before ties space ever i n j x ≡ true
-    → is_at_most (f_value space n.state n.cost) (f_value space x.state x.cost) ≡ true
-first_is_least ties space ever i n j x h =
-    let f = f_value space n.state n.cost in
-    let e = f_value space x.state x.cost in
-    ⊎_elim
-    (λ (above : not (is_at_most e f) ≡ true). is_at_most-from f e (below_is_at_most f e (is_at_most-false e f (not-true (is_at_most e f) above))))
-    (λ (rest : _ ≡ true). (and_parts (is_at_most f e) _ rest).0)
-    (or_cases (not (is_at_most e f)) _ h)
-
-past_or_open : (ties : Ties) (space : SearchSpace) (ever : List Bool) (o : Owner) (i : ℕ) (n : Node) (j : ℕ) (x : Node)
-    → (is_open space x ≡ true → goes_before ties space ever i n j x ≡ true)
-    → (x.expanded || is_at_most (f_value space n.state n.cost) (f_value space x.state x.cost)) ≡ true
-past_or_open ties space ever o i n j x first =
-    let f = f_value space n.state n.cost in
-    let e = f_value space x.state x.cost in
-    ⊎_elim
-    (λ (done : x.expanded ≡ true). or_left x.expanded (is_at_most f e) done)
-    (λ (there : x.expanded ≡ false). or_right x.expanded (is_at_most f e) (⊎_elim
-    (λ (endless : is_at_most Infinite e ≡ true). is_at_most-from f e
-    (at_most_through f Infinite e (at_most_infinite f) (is_at_most-true Infinite e endless)))
-    (λ (finite : is_at_most Infinite e ≡ false). first_is_least ties space ever i n j x
-    (first (and_from (not x.expanded) (not (is_at_most Infinite e)) (not_from_false x.expanded there) (not_from_false (is_at_most Infinite e) finite))))
-    (cases_Bool (is_at_most Infinite e))))
-    (cases_Bool x.expanded)
-
-pub next_may : {ties : Ties} (space : SearchSpace) (ever : List Bool) (o : Owner) (i : ℕ) (n : Node) → IsNext ties space o.nodes ever o.bound i n → may_expand space o n ≡ true
-unfolding may_expand
-next_may {ties = ties} space ever o i n next =
-    and_from _ _ (and_parts (not n.expanded) _ next.open_node).0
-    (and_from _ _ (not_from_false (is_at_most o.bound (f_value space n.state n.cost)) next.below)
-    (all_from (λ x. x.expanded || is_at_most (f_value space n.state n.cost) (f_value space x.state x.cost)) o.nodes
-    (λ j x at. past_or_open ties space ever o i n j x (next.first j x at))))
-
-pub next_open : {ties : Ties} (space : SearchSpace) (ever : List Bool) (o : Owner) (i : ℕ) (n : Node) → IsNext ties space o.nodes ever o.bound i n → no_open space o ≡ false
-next_open space ever o i n next = one_fails (λ x. x.expanded || is_at_most o.bound (f_value space x.state x.cost)) o.nodes i n next.there
-    (or_from n.expanded (is_at_most o.bound (f_value space n.state n.cost)) (not-true n.expanded (and_parts (not n.expanded) _ next.open_node).0) next.below)
+no_more : (n : ℕ) → n + 0 ≡ n
+no_more n = omega arith
 
 module _ {S : Type 0} (owner : S → List ℕ → ℕ → ℕ) where
   -- ---- one owner and its bound
@@ -89,10 +45,10 @@ module _ {S : Type 0} (owner : S → List ℕ → ℕ → ℕ) where
   owner_space w v o is at = ap (λ s. searched owner s (length o.outboxes)) (is.spaces v o at)
       ∙ ap (λ n. searched owner w.space n) (is.outboxes v o at)
 
-  pub here_one : (old : WorldOf S) (v : ℕ) (p : OwnerOf S) (b : Distance) (l : Log) → At old.seen v b → l.owner ≡ under p b
-      → (q : OwnerOf S) (c : Distance) → At (slice_set old.owners v p) v q → At old.seen v c → l.owner ≡ under q c
+  pub here_one : (old : WorldOf S) (v : ℕ) (p : OwnerOf S) (b : Distance) (l : Log) → At old.seen v b → IsLogOf l p b
+      → (q : OwnerOf S) (c : Distance) → At (slice_set old.owners v p) v q → At old.seen v c → IsLogOf l q c
   here_one old v p b l seen is q c at seen2 =
-      is ∙ (ap (λ z. under z b) (set_there old.owners v p q at) ∙ ap (λ z. under q z) (at_once old.seen v b c seen seen2))
+      subst (λ (z : OwnerOf S). IsLogOf l z c) (set_there old.owners v p q at) (subst (λ (z : Distance). IsLogOf l p z) (at_once old.seen v b c seen seen2) is)
 
   pub there_one : (old : WorldOf S) (v : ℕ) (p : OwnerOf S) (u : ℕ) (q : OwnerOf S) (c : Distance) → u ≢ v
       → At (slice_set old.owners v p) u q → At old.seen u c → At old.owners u q × At old.seen u c
@@ -125,11 +81,13 @@ module _ {S : Type 0} (owner : S → List ℕ → ℕ → ℕ) where
   stays old v world shows none =
       let space = space_in owner old in
       let i = length (world.logs v).owner.nodes in
+      let past : slice_get (world.logs v).owner.nodes i ≡ None = slice_get_past (world.logs v).owner.nodes i (omega arith) in
       record {
         step = Expands v i;
         does = (i, refl, inr none);
         shown = shown_same owner old world v (happens space v (world.logs v) (Expanding i)) shows
-            (ap (λ x. expanded_at space v (world.logs v).owner i x) (slice_get_past (world.logs v).owner.nodes i (omega arith)));
+            (ap (λ x. expanded_at space v (world.logs v).owner i x) past)
+            (ap (λ x. (world.logs v).expansions + count_at space (world.logs v).owner x) past ∙ no_more (world.logs v).expansions);
       }
 
   pub expand_past : (old : WorldOf S) (v : ℕ) → length old.owners ≤ v → IsStepDone owner old old (Expand v) false
@@ -149,26 +107,26 @@ module _ {S : Type 0} (owner : S → List ℕ → ℕ → ℕ) where
       ∙ ap (λ k. expanded_at space k (under o b) done.index (Some done.node)) (is.workers v o at)) in
       record {
         stepped = λ world shows.
-            let x : (world.logs v).owner ≡ under o b = shows.owners v o b at seen in
+            let log = shows.owners v o b at seen in
             record {
               step = Expands v done.index;
               does = (
                 done.index,
                 refl,
-                inl (subst (λ w. MayExpandAt space w done.index) (sym x)
+                inl (subst (λ w. MayExpandAt space w done.index) (sym log.owner)
                     (done.node, next.there, next_may space o.ever (under o b) done.index done.node next)),
               );
               shown = shown owner old (with_owner old v p) world v (happens space v (world.logs v) (Expanding done.index))
                   world.underway world.bound world.resting shows refl (length-set old.owners v p)
                   (here_one old v p b (happens space v (world.logs v) (Expanding done.index)) seen
-                  (ap (λ w. expanded_at space v w done.index (slice_get w.nodes done.index)) x
-                  ∙ (ap (λ k. expanded_at space v (under o b) done.index k) (at_read o.nodes done.index done.node next.there) ∙ sym after)))
+                  (log_expanded space (world.logs v) o p b v done.index done.node log next done.allowed after done.space done.counted))
                   (there_one old v p)
                   (λ le. let lt = at_below old.owners v o at in absurd (omega arith))
                   shows.underway shows.bound shows.resting;
             };
         changed_is = sym (at_owner_here old v o b _ at seen ∙ ap not (next_open space o.ever (under o b) done.index done.node next));
         unchanged = λ e. absurd (true≢false e);
+        limited = refl;
         space = refl;
         owners = length-set old.owners v p;
       }
@@ -181,7 +139,7 @@ module _ {S : Type 0} (owner : S → List ℕ → ℕ → ℕ) where
       let none_in : no_open (space_in owner old) (under o b) ≡ true = subst (λ s. no_open s (under o b) ≡ true) same none in
       subst (λ w. IsStepDone owner old w (Expand v) false) (sym (as_it_was old v o p at unchanged))
       (nothing_done owner old (Expand v) false refl (at_owner_here old v o b _ at seen ∙ ap not none_in)
-      (λ world shows. stays old v world shows (subst (λ w. no_open (space_in owner old) w ≡ true) (sym (shows.owners v o b at seen)) none_in)))
+      (λ world shows. stays old v world shows (subst (λ w. no_open (space_in owner old) w ≡ true) (sym (shows.owners v o b at seen).owner) none_in)))
 
   pub expand_kept : (old : WorldOf S) (v : ℕ) (o p : OwnerOf S) (b : Distance) (posted : Option ℕ) → IsWorld owner old → At old.owners v o
       → At old.seen v b → IsExpansion owner b o p posted → p.space ≡ o.space → p.worker ≡ o.worker → length p.outboxes ≡ length o.outboxes

@@ -8,7 +8,8 @@ use Rattle.cost.specs.Distances.{Distance}
 use Rattle.owner_theory.specs.Owners as machine
 use Rattle.owner_theory.specs.Owners.{At, SearchSpace, Message, Packet, Log, HandOut, list_at, handed_out, happens, put}
 use Rattle.owner_theory.specs.Worlds.{World, Sends, is_empty, sent}
-use Rattle.owner.specs.Owned.{OwnerOf, under, space_of, IsMessageTo}
+use Rattle.owner.specs.Owned.{OwnerOf, IsLogOf, under, space_of, IsMessageTo}
+use Rattle.owner.proofs.Logs.{log_after}
 use Rattle.owner.specs.declared.fault.OwnerFault.TheVariants.{OutOfMemory}
 use Rattle.netcore.specs.declared.step.WorldStep.TheVariants.{Send}
 use Rattle.netcore.specs.Worlds.{WorldOf, space_in, packets_to, Shows, Steps}
@@ -21,6 +22,10 @@ use Rattle.netcore.proofs.Expanding.{at_owner_here, at_owner_past, owner_space, 
 pub no_message : (q : List Message) → length q ≡ 0 → q ≡ []
 no_message [] e = refl
 no_message (x ∷ q) e = absurd (omega arith)
+
+handed_expansions : (to : ℕ) (l : Log) (ms : List Message) → (handed_out to l ms).expansions ≡ l.expansions
+handed_expansions to l [] = refl
+handed_expansions to l (m ∷ ms) = refl
 
 module _ {S : Type 0} (owner : S → List ℕ → ℕ → ℕ) where
   -- ---- nothing to send
@@ -40,7 +45,7 @@ module _ {S : Type 0} (owner : S → List ℕ → ℕ → ℕ) where
       → IsStepDone owner old old (Send v to) false
   send_none old v to o b at seen none =
       nothing_done owner old (Send v to) false refl (at_owner_here owner old v o b _ at seen ∙ ap (λ q. not (is_empty q)) none)
-      (λ world shows. unsent old v to world shows (ap (λ w. list_at w.outboxes to) (shows.owners v o b at seen) ∙ none))
+      (λ world shows. unsent old v to world shows (ap (λ w. list_at w.outboxes to) (shows.owners v o b at seen).owner ∙ none))
 
   -- an outbox to an owner that there is not
   pub send_to_past : (old : WorldOf S) (v to : ℕ) (o : OwnerOf S) (b : Distance) → IsWorld owner old → At old.owners v o → At old.seen v b
@@ -68,15 +73,19 @@ module _ {S : Type 0} (owner : S → List ℕ → ℕ → ℕ) where
       → IsHandOut old v to o p b q m → IsMessageTo (space_in owner old) to m
   fits_in old v to o p b q m is out = subst (λ s. IsMessageTo s to m) (owner_space owner old v o is out.at) out.fits
 
-  log_after : (old : WorldOf S) (v to : ℕ) (o p : OwnerOf S) (b : Distance) (q : List Packet) (m : Message) (world : World)
+  log_sent : (old : WorldOf S) (v to : ℕ) (o p : OwnerOf S) (b : Distance) (q : List Packet) (m : Message) (world : World)
       → Shows owner old world → IsHandOut old v to o p b q m
-      → (happens (space_in owner old) v (world.logs v) (HandOut to)).owner ≡ under p b
-  log_after old v to o p b q m world shows out =
-      let x : (world.logs v).owner ≡ under o b = shows.owners v o b out.at out.seen in
+      → IsLogOf (happens (space_in owner old) v (world.logs v) (HandOut to)) p b
+  log_sent old v to o p b q m world shows out =
+      let log = shows.owners v o b out.at out.seen in
+      let x : (world.logs v).owner ≡ under o b = log.owner in
       let rest = list_at p.outboxes to in
-      ap (λ ms. (handed_out to (world.logs v) ms).owner) (ap (λ w. list_at w.outboxes to) x ∙ out.first)
+      log_after (world.logs v) (happens (space_in owner old) v (world.logs v) (HandOut to)) o p b b log
+      (ap (λ ms. (handed_out to (world.logs v) ms).owner) (ap (λ w. list_at w.outboxes to) x ∙ out.first)
       ∙ (ap (λ (w : machine.Owner). let after : machine.Owner = record { nodes = w.nodes; outboxes = slice_set w.outboxes to rest; bound = w.bound; best = w.best } in after) x
-      ∙ sym (ap (λ z. under z b) out.others))
+      ∙ sym (ap (λ z. under z b) out.others)))
+      (handed_expansions to (world.logs v) (list_at (world.logs v).owner.outboxes to))
+      (ap (λ (z : OwnerOf S). z.space) out.others) (ap (λ (z : OwnerOf S). z.expansions) out.others)
 
   queues_after : (old : WorldOf S) (v to : ℕ) (o p : OwnerOf S) (b : Distance) (q : List Packet) (m : Message) (world : World)
       → IsWorld owner old → Shows owner old world → IsHandOut old v to o p b q m
@@ -101,14 +110,14 @@ module _ {S : Type 0} (owner : S → List ℕ → ℕ → ℕ) where
       record {
         stepped = λ world shows.
             let y : list_at (world.logs v).owner.outboxes to ≡ m ∷ list_at p.outboxes to =
-            ap (λ w. list_at w.outboxes to) (shows.owners v o b out.at out.seen) ∙ out.first in
+            ap (λ w. list_at w.outboxes to) (shows.owners v o b out.at out.seen).owner ∙ out.first in
             record {
               step = Sends v to;
               does = refl;
               shown = subst (Shows owner new) (sym (ap (sent space world v to) y))
                   (shown owner old new world v (happens space v (world.logs v) (HandOut to)) (world.underway ++ packet_from v m ∷ []) world.bound
                   world.resting shows refl (length-set old.owners v p)
-                  (here_one owner old v p b (happens space v (world.logs v) (HandOut to)) out.seen (log_after old v to o p b q m world shows out))
+                  (here_one owner old v p b (happens space v (world.logs v) (HandOut to)) out.seen (log_sent old v to o p b q m world shows out))
                   (there_one owner old v p)
                   (λ le. let lt = at_below old.owners v o out.at in absurd (omega arith))
                   (queues_after old v to o p b q m world is shows out)
@@ -116,6 +125,7 @@ module _ {S : Type 0} (owner : S → List ℕ → ℕ → ℕ) where
             };
         changed_is = sym (at_owner_here owner old v o b _ out.at out.seen ∙ ap (λ z. not (is_empty z)) out.first);
         unchanged = λ e. absurd (true≢false e);
+        limited = refl;
         space = refl;
         owners = length-set old.owners v p;
       }

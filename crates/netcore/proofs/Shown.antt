@@ -8,7 +8,8 @@ use Rattle.owner_theory.specs.Owners.{At, put, SearchSpace, Packet, Log}
 use Rattle.owner_theory.specs.Worlds.{World, Step, Request, Does, IsRunOf, world_after, world_start, world_run}
 use Rattle.owner_theory.proofs.Lists.{put_cases}
 use Rattle.owner.specs.Spaces.{searched}
-use Rattle.owner.specs.Owned.{OwnerOf, under, IsMessageTo}
+use Rattle.owner.specs.Owned.{OwnerOf, IsLogOf, IsMessageTo}
+use Rattle.owner.proofs.Logs.{log_after}
 use Rattle.netcore.specs.declared.step.WorldStep.{WorldStep}
 use Rattle.netcore.specs.Worlds.{WorldOf, space_in, packets_to, IsVoid, Shows, Steps, IsAfter, request_of, world_after_run, would_change}
 use Rattle.netcore.specs.Kept.{IsStepDone, IsWorld}
@@ -33,7 +34,7 @@ module _ {S : Type 0} (owner : S → List ℕ → ℕ → ℕ) where
   -- one log is another one, and what lies in memory differs from what it was there alone
   pub shown : (old new : WorldOf S) (world : World) (v : ℕ) (l : Log) (underway : List Packet) (bound : Distance) (resting : ℕ → Bool)
       → Shows owner old world → new.space ≡ old.space → length new.owners ≡ length old.owners
-      → ((o : OwnerOf S) (b : Distance) → At new.owners v o → At new.seen v b → l.owner ≡ under o b)
+      → ((o : OwnerOf S) (b : Distance) → At new.owners v o → At new.seen v b → IsLogOf l o b)
       → ((u : ℕ) (o : OwnerOf S) (b : Distance) → u ≢ v → At new.owners u o → At new.seen u b → At old.owners u o × At old.seen u b)
       → (length old.owners ≤ v → IsVoid l.owner)
       → ((u : ℕ) (ps : List Packet) → At new.underway u ps → packets_to (space_in owner old) u underway ≡ ps)
@@ -41,7 +42,7 @@ module _ {S : Type 0} (owner : S → List ℕ → ℕ → ℕ) where
       → ((u : ℕ) (r : Bool) → At new.resting u r → resting u ≡ r)
       → Shows owner new (record { logs = put world.logs v l; underway = underway; bound = bound; resting = resting })
   shown old new world v l underway bound resting shows e n here there void queues bounds rests = record {
-    owners = λ u o b at seen. put_cases world.logs v l u (λ (x : Log). x.owner ≡ under o b)
+    owners = λ u o b at seen. put_cases world.logs v l u (λ (x : Log). IsLogOf x o b)
         (λ is. here o b (subst (λ k. At new.owners k o) is at) (subst (λ k. At new.seen k b) is seen))
         (λ not_it. let old_one = there u o b (λ is. eqb-false u v not_it is) at seen in shows.owners u o b old_one.0 old_one.1);
     underway = λ u ps at. subst (λ s. packets_to s u underway ≡ ps) (sym (same_in old new e n)) (queues u ps at);
@@ -51,12 +52,12 @@ module _ {S : Type 0} (owner : S → List ℕ → ℕ → ℕ) where
         (λ is. void (omega arith)) (λ _. shows.others u (omega arith));
   }
 
-  -- a log with the same owner shows no difference
+  -- a log with the same owner and as many expansions shows no difference
   pub shown_same : (old : WorldOf S) (world : World) (v : ℕ) (l : Log) → Shows owner old world → l.owner ≡ (world.logs v).owner
-      → Shows owner old (record { logs = put world.logs v l; underway = world.underway; bound = world.bound; resting = world.resting })
-  shown_same old world v l shows same =
+      → l.expansions ≡ (world.logs v).expansions → Shows owner old (record { logs = put world.logs v l; underway = world.underway; bound = world.bound; resting = world.resting })
+  shown_same old world v l shows same count =
       shown old old world v l world.underway world.bound world.resting shows refl refl
-      (λ o b at seen. same ∙ shows.owners v o b at seen)
+      (λ o b at seen. let log = shows.owners v o b at seen in log_after (world.logs v) l o o b b log (same ∙ log.owner) count refl refl)
       (λ u o b ne at seen. (at, seen))
       (λ le. subst IsVoid (sym same) (shows.others v le))
       shows.underway shows.bound shows.resting
@@ -68,6 +69,7 @@ module _ {S : Type 0} (owner : S → List ℕ → ℕ → ℕ) where
     stepped = steps;
     changed_is = is ∙ sym test;
     unchanged = λ _. refl;
+    limited = refl;
     space = refl;
     owners = refl;
   }

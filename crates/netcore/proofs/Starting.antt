@@ -4,10 +4,11 @@ use Rattle.std.proofs.lemmas.List.{length-replicate}
 use Rattle.std.proofs.lemmas.List.Elements.{All-nil}
 use Rattle.std.proofs.lemmas.Bool.{ne_eqb}
 use Rattle.cost.specs.Distances.{Infinite}
-use Rattle.owner_theory.specs.Owners.{At, list_at, SearchSpace, Packet, Owner, start_owner}
+use Rattle.owner_theory.specs.Owners.{At, list_at, SearchSpace, Packet, Owner, start_owner, start}
 use Rattle.owner_theory.specs.Worlds.{world_start}
 use Rattle.owner.specs.Spaces.{SpaceOf, searched}
 use Rattle.owner.specs.Owned.{OwnerOf, under, IsMessageTo}
+use Rattle.owner.proofs.Logs.{first_log}
 use Rattle.netcore.specs.Worlds.{WorldOf, space_in, IsVoid, Shows, IsAfter}
 use Rattle.netcore.specs.Kept.{IsWorld}
 use Rattle.netcore.specs.Starts.{IsFirstOwner}
@@ -42,6 +43,7 @@ module _ {S : Type 0} (owner : S → List ℕ → ℕ → ℕ) where
     seen = replicate n Infinite;
     bound = Infinite;
     resting = replicate n false;
+    limited = false;
   }
 
   -- an owner more
@@ -57,7 +59,8 @@ module _ {S : Type 0} (owner : S → List ℕ → ℕ → ℕ) where
       (below : (state : List ℕ) → owner space.spread state n < n) where
     pub start_shown : Shows owner (first_world space os n) (world_start (searched owner space n))
     start_shown = record {
-      owners = λ v o b at seen. sym (each v o at).started ∙ ap (λ z. under o z) (at_copies n Infinite v b seen);
+      owners = λ v o b at seen.
+          first_log (start (searched owner space n) v) o b (sym (each v o at).started ∙ ap (λ z. under o z) (at_copies n Infinite v b seen)) refl (each v o at).expansions;
       underway = λ v ps at. at_copies n [] v ps at;
       bound = refl;
       resting = λ v r at. at_copies n false v r at;

@@ -12,6 +12,7 @@ pub record IsStepDone {S : Type 0} (owner : S → List ℕ → ℕ → ℕ) (old
   pub stepped : (world : machine.World) → Shows owner old world → Steps owner old world asked new
   pub changed_is : changed ≡ would_change owner old asked
   pub unchanged : changed ≡ false → new ≡ old
+  pub limited : new.limited ≡ old.limited
   pub space : new.space ≡ old.space
   pub owners : length new.owners ≡ length old.owners
 

@@ -10,3 +10,4 @@ pub record IsFirstOwner {S : Type 0} (owner : S → List ℕ → ℕ → ℕ) (s
   pub started : under o Infinite ≡ start_owner (searched owner searched_space count) (owner searched_space.spread searched_space.task.initial count == v)
   pub space : o.space ≡ searched_space
   pub worker : o.worker ≡ v
+  pub expansions : o.expansions ≡ 0

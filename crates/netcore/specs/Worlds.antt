@@ -8,14 +8,14 @@ use Rattle.owner_theory.specs.Owners.{At, list_at, SearchSpace, Packet}
 use Rattle.owner_theory.specs.Worlds as machine
 use Rattle.owner_theory.specs.Worlds.{no_open, idle, is_empty, Request, ToExpand, ToSend, ToDeliver, ToOffer, ToLook, ToRest, Step, Does, IsRunOf, world_start, world_run, world_after}
 use Rattle.owner.specs.Spaces.{SpaceOf, searched}
-use Rattle.owner.specs.Owned.{OwnerOf, under, IsRefusal}
+use Rattle.owner.specs.Owned.{OwnerOf, IsLogOf, under, IsRefusal}
 use Rattle.owner.specs.declared.fault.OwnerFault.{OwnerFault}
 use Rattle.owner.specs.declared.fault.OwnerFault.TheVariants.{OutOfMemory, TotalTooLarge, LimitReached}
 use Rattle.netcore.specs.declared.step.WorldStep.{WorldStep}
 use Rattle.netcore.specs.declared.step.WorldStep.TheVariants.{Expand, Send, Deliver, Offer, Look, Rest}
 
 -- the space, the owners, the messages underway to each of them (the oldest first), the bound that each has read last,
--- the least cost that was offered, and which owners are at rest
+-- the least cost that was offered, which owners are at rest, and whether a list of steps was ended by an owner's limit
 pub record WorldOf (S : Type 0) : Type 0 where
   pub space : SpaceOf S
   pub owners : List (OwnerOf S)
@@ -23,6 +23,13 @@ pub record WorldOf (S : Type 0) : Type 0 where
   pub seen : List Distance
   pub bound : Distance
   pub resting : List Bool
+  pub limited : Bool
+
+-- a queue, a bound and a flag for each owner
+pub record IsFilled {S : Type 0} (w : WorldOf S) : Type 0 where
+  pub queues : length w.underway ≡ length w.owners
+  pub bounds : length w.seen ≡ length w.owners
+  pub flags : length w.resting ≡ length w.owners
 
 -- the search space of the world's owners
 abbrev pub space_in : {S : Type 0} → (S → List ℕ → ℕ → ℕ) → WorldOf S → SearchSpace
@@ -40,7 +47,7 @@ pub record IsVoid (o : owners.Owner) : Type 0 where
 
 -- the stored world represents this one; past its last owner, the latter has owners that are void
 pub record Shows {S : Type 0} (owner : S → List ℕ → ℕ → ℕ) (w : WorldOf S) (world : machine.World) : Type 0 where
-  pub owners : (v : ℕ) (o : OwnerOf S) (b : Distance) → At w.owners v o → At w.seen v b → (world.logs v).owner ≡ under o b
+  pub owners : (v : ℕ) (o : OwnerOf S) (b : Distance) → At w.owners v o → At w.seen v b → IsLogOf (world.logs v) o b
   pub underway : (v : ℕ) (ps : List Packet) → At w.underway v ps → packets_to (space_in owner w) v world.underway ≡ ps
   pub bound : world.bound ≡ w.bound
   pub resting : (v : ℕ) (r : Bool) → At w.resting v r → world.resting v ≡ r
@@ -121,10 +128,12 @@ pub record IsRefusedStep {S : Type 0} (owner : S → List ℕ → ℕ → ℕ) (
   pub world : IsWorldAfter owner over n before w
   pub refused : IsStepRefusal owner w w step e
 
--- the world after these steps; or the one in which one of them asks an owner for more nodes than its limit allows: that
--- step changes nothing, and no later step is done
+-- the world after these steps; or a limited one, in which one of them asks an owner for more nodes than its limit
+-- allows: that step changes nothing, and no later step is done
 abbrev pub IsRun : {S : Type 0} → (S → List ℕ → ℕ → ℕ) → SpaceOf S → ℕ → List WorldStep → WorldOf S → Type 0
-IsRun owner over n asked w = IsWorldAfter owner over n asked w ⊎ IsRefusedStep owner over n asked w LimitReached
+IsRun owner over n asked w =
+    IsFilled w
+    × ((IsWorldAfter owner over n asked w × (w.limited ≡ false)) ⊎ (IsRefusedStep owner over n asked w LimitReached × (w.limited ≡ true)))
 
 -- a step is refused for another reason than the limit
 abbrev pub IsRunRefusal : {S : Type 0} → (S → List ℕ → ℕ → ℕ) → SpaceOf S → ℕ → List WorldStep → OwnerFault → Type 0

@@ -7,7 +7,7 @@ ghost use Rattle.cost.specs.Distances.{Distance};
 ghost use Rattle.owner_theory.specs.Worlds.{world_start, family_of, waiting, IsQuiet};
 ghost use Rattle.owner.specs.Spaces.{searched};
 ghost use Rattle.netcore.specs.declared.step.WorldStep.{WorldStep};
-ghost use Rattle.netcore.specs.Worlds.{space_in, left_in, world_after_run, Shows, Steps, IsAfter, IsStepRefusal, IsRun, IsRunRefusal, would_change};
+ghost use Rattle.netcore.specs.Worlds.{space_in, left_in, world_after_run, Shows, Steps, IsAfter, IsStepRefusal, IsFilled, IsRun, IsRunRefusal, would_change};
 ghost use Rattle.netcore.specs.Possible.{possible_steps};
 ghost use Rattle.netcore.specs.Kept.{IsStepDone, IsStepRefused};
 ghost use Rattle.netcore.specs.Starts.{IsFirstOwner};
@@ -30,7 +30,7 @@ use std::collections::VecDeque;
 use std::marker::Model;
 
 /// Owners of states, the messages underway to each of them, the bound that each has read last, the least cost that was
-/// offered, and which owners are at rest.
+/// offered, which owners are at rest, and whether a list of steps was ended by an owner's limit.
 #[derive(Drop)]
 pub struct World<'a, S: Spread + Drop, F: StateForm + Drop> {
     pub(crate) space: &'a Space<'a, S>,
@@ -39,6 +39,7 @@ pub struct World<'a, S: Spread + Drop, F: StateForm + Drop> {
     pub(crate) seen: Vec<Dist>,
     pub(crate) bound: Dist,
     pub(crate) resting: Vec<bool>,
+    pub(crate) limited: bool,
 }
 
 impl<'a, S: Spread + Drop, F: StateForm + Drop> Model for World<'a, S, F> {
@@ -56,6 +57,7 @@ impl<'a, S: Spread + Drop, F: StateForm + Drop> Model for World<'a, S, F> {
       seen = w.seen.items;
       bound = w.bound;
       resting = w.resting.items;
+      limited = w.limited;
     } };
 
     ghost use Rattle.netcore.specs.Kept.{IsWorld};
@@ -67,6 +69,7 @@ impl<'a, S: Spread + Drop, F: StateForm + Drop> Model for World<'a, S, F> {
       seen = w.seen.items;
       bound = w.bound;
       resting = w.resting.items;
+      limited = w.limited;
     }) };
 }
 
@@ -112,6 +115,7 @@ impl<'a, S: Spread + Drop, F: StateForm + Drop> World<'a, S, F> {
         requires owners { 0 < owners }
         requires fits { F.Fits (ranges space.now.task) }
         ensures started { IfOk result (λ w. Shows S.owner w (world_start (searched S.owner space.now owners))) }
+        ensures limited { IfOk result (λ w. w.limited ≡ false) }
         ensures space { IfOk result (λ w. w.space ≡ space.now) }
         ensures owners { IfOk result (λ w. length w.owners ≡ owners) }
     {
@@ -122,6 +126,7 @@ impl<'a, S: Spread + Drop, F: StateForm + Drop> World<'a, S, F> {
             seen: vec![in alloc; Dist::inf(); owners]?,
             bound: Dist::inf(),
             resting: vec![in alloc; false; owners]?,
+            limited: false,
         })
     }
 
@@ -142,7 +147,8 @@ impl<'a, S: Spread + Drop, F: StateForm + Drop> World<'a, S, F> {
     /// Puts the worker's oldest message for worker `to` underway. Returns whether there was one. On failure the world
     /// is unchanged.
     fn send(&mut self, worker: usize, to: usize) -> Result<bool, AllocError>
-        ensures { MatchResult result (IsStepDone S.owner self.old self.new (Send worker to)) (λ _. IsStepRefused S.owner self.old self.new (Send worker to) OutOfMemory) }
+        ensures { MatchResult result (IsStepDone S.owner self.old self.new (Send worker to))
+            (λ _. IsStepRefused S.owner self.old self.new (Send worker to) OutOfMemory) }
     {
         if worker >= self.owners.len() {
             return Ok(false);
@@ -167,7 +173,8 @@ impl<'a, S: Spread + Drop, F: StateForm + Drop> World<'a, S, F> {
     /// Delivers message number `number` of those underway to the worker, which is then not at rest. Returns whether
     /// there was one. On failure the world is unchanged.
     fn deliver(&mut self, worker: usize, number: usize) -> Result<bool, AllocError>
-        ensures { MatchResult result (IsStepDone S.owner self.old self.new (Deliver worker number)) (λ _. IsStepRefused S.owner self.old self.new (Deliver worker number) OutOfMemory) }
+        ensures { MatchResult result (IsStepDone S.owner self.old self.new (Deliver worker number))
+            (λ _. IsStepRefused S.owner self.old self.new (Deliver worker number) OutOfMemory) }
     {
         if worker >= self.owners.len() {
             return Ok(false);
@@ -246,6 +253,7 @@ impl<'a, S: Spread + Drop, F: StateForm + Drop> World<'a, S, F> {
         ensures changed { IfOk result (λ changed. changed ≡ would_change S.owner self.old step) }
         ensures unchanged { IfOk result (λ changed. changed ≡ false → self.new ≡ self.old) }
         ensures refused { IfErr result (IsStepRefusal S.owner self.old self.new step) }
+        ensures limited { IfOk result (λ _. self.new.limited ≡ self.old.limited) }
         ensures space { self.new.space ≡ self.old.space }
         ensures owners { length self.new.owners ≡ length self.old.owners }
     {
@@ -260,9 +268,9 @@ impl<'a, S: Spread + Drop, F: StateForm + Drop> World<'a, S, F> {
     }
 
     /// Returns the world after these steps, from the start. If one of them asks an owner for more nodes than its limit
-    /// allows, it returns the world before that step, and no later step is done. Fails with `TotalTooLarge` if a step
-    /// does (the contract states this of some world after the steps before it, not of this one), or if allocation
-    /// fails.
+    /// allows, it returns the world before that step, which is then limited, and no later step is done. Fails with
+    /// `TotalTooLarge` if a step does (the contract states this of some world after the steps before it, not of this
+    /// one), or if allocation fails.
     pub fn run(
         alloc: Global,
         space: &'a Space<'a, S>,
@@ -280,12 +288,25 @@ impl<'a, S: Spread + Drop, F: StateForm + Drop> World<'a, S, F> {
         for step in steps {
             match world.step(*step) {
                 Ok(_) => {}
-                Err(OwnerFault::LimitReached) => return Ok(world),
+                Err(OwnerFault::LimitReached) => {
+                    world.limited = true;
+                    world.recall(); // each owner has a queue, a bound and a flag
+                    return Ok(world);
+                }
                 Err(OwnerFault::TotalTooLarge) => return Err(OwnerFault::TotalTooLarge),
                 Err(OwnerFault::OutOfMemory) => return Err(OwnerFault::OutOfMemory),
             }
         }
+        world.recall(); // each owner has a queue, a bound and a flag
         Ok(world)
+    }
+
+    /// Returns whether `run` ended before one of its steps, because that asks an owner for more nodes than its limit
+    /// allows.
+    pub fn limited(&self) -> bool
+        ensures { result ≡ self.now.limited }
+    {
+        self.limited
     }
 
     /// Returns the number of messages underway or in outboxes plus the number of owners not at rest, capped at 2^128 -
@@ -321,7 +342,8 @@ impl<'a, S: Spread + Drop, F: StateForm + Drop> World<'a, S, F> {
     /// Returns the result that the owners have found: the cost of a cheapest plan, or that there is no plan; `None` if
     /// they are not settled.
     pub fn answer(&self, alloc: Global) -> Result<Option<SearchAnswer>, AllocError>
-        ensures { IfOk result (λ answer. (at : Option Distance) × IsSettledAnswer (space_in S.owner self.now) self.now.owners (left_in self.now) at × (answer ≡ answer_of at)) }
+        ensures { IfOk result
+            (λ answer. (at : Option Distance) × IsSettledAnswer (space_in S.owner self.now) self.now.owners (left_in self.now) at × (answer ≡ answer_of at)) }
     {
         let Some(bound) = self.settled(alloc)? else {
             return Ok(None);
@@ -352,10 +374,12 @@ impl<'a, S: Spread + Drop, F: StateForm + Drop> World<'a, S, F> {
         &self.owners
     }
 
-    /// Proves the type's invariant: every world is the world after some run, and it has owners. Only for the proof.
+    /// Proves the type's invariant: every world is the world after some run, and it has owners, each with a queue, a
+    /// bound and a flag. Only for the proof.
     pub fn recall(&self)
         ensures run { ∥ ((asked : List WorldStep) × IsAfter S.owner (space_in S.owner self.now) asked self.now) ∥₁ }
         ensures some { 0 < length self.now.owners }
+        ensures filled { IsFilled self.now }
     {
         let _ = self.owners.len();
     }

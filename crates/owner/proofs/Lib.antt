@@ -7,3 +7,5 @@ pub mod Batching
 pub mod Hinting
 pub mod LateSuccessors
 pub mod Expanding
+pub mod NextNodes
+pub mod Logs

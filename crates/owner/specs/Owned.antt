@@ -1,9 +1,9 @@
 -- One owner of states as it is stored, and the expansion of its next node (hash distributed A*: Kishimoto, Fukunaga and
 -- Botea 2013).
-use Rattle.std.specs.Prelude.{◌≡◌, ◌≢◌, ℕ, suc, ◌+◌, ◌<◌, ◌≤◌, ◌⊎◌, Bool, true, false, ◌&&◌, ◌||◌, not, if◌then◌else◌, List, [], ◌∷◌, length, slice_set, Option, Some, None, is_some}
+use Rattle.std.specs.Prelude.{◌≡◌, ◌≢◌, ℕ, suc, ◌+◌, ◌<◌, ◌≤◌, ◌⊎◌, Bool, true, false, ◌&&◌, ◌||◌, not, if◌then◌else◌, List, [], ◌∷◌, length, slice_set, Option, Some, None, is_some, IfSome}
 use Rattle.cost.specs.Distances.{Distance, Infinite, is_at_most, lesser}
 use Rattle.fdr.specs.Tasks.{FiniteDomainTask, ranges, IsState, applies_at, cost_of}
-use Rattle.owner_theory.specs.Owners.{At, SearchSpace, Message, Node, Owner, f_value, expanded_at}
+use Rattle.owner_theory.specs.Owners.{At, SearchSpace, Message, Node, Owner, Log, f_value, expanded_at}
 use Rattle.owner_theory.specs.Worlds.{no_open, waiting}
 use Rattle.closed.specs.Tables.{padded, was_expanded}
 use Rattle.owner.specs.declared.fault.OwnerFault.{OwnerFault}
@@ -32,6 +32,18 @@ space_of owner o = searched owner o.space (length o.outboxes)
 -- the owner with `bound` as the bound that it has read last
 abbrev pub under : {S : Type 0} → OwnerOf S → Distance → Owner
 under o bound = record { nodes = o.nodes; outboxes = o.outboxes; bound = bound; best = o.best }
+
+-- what an owner has counted after a number of expansions: all of them if it has a limit, else none
+abbrev pub counted_under : Option ℕ → ℕ → ℕ
+counted_under None expansions = 0
+counted_under (Some limit) expansions = expansions
+
+-- the log is that of the owner, which has read this bound last and has counted the log's expansions; these are at most
+-- as many as its limit allows
+pub record IsLogOf {S : Type 0} (log : Log) (o : OwnerOf S) (bound : Distance) : Type 0 where
+  pub owner : log.owner ≡ under o bound
+  pub counted : o.expansions ≡ counted_under o.space.limit log.expansions
+  pub allowed : IfSome o.space.limit (λ limit. log.expansions ≤ limit)
 
 -- a message that owner `to` may receive: its state is a state of the task and belongs to this owner, and its cost and
 -- number of operators are at most 2^62

@@ -92,7 +92,8 @@ fn put<S: Spread + Drop, F: StateForm + Drop>(
     requires goal { is_goal ≡ is_goal_state holdings.old.space.task (F.values (ranges holdings.old.space.task) message.state) }
     requires batch { IsBatch F.IsForm F.values S.owner holdings.old batch.old }
     ensures treated { OnOk result ((bound : Distance) (nodes : List Node) → is_at_most bound (Finite f) ≡ false →
-        pending F.values bound nodes holdings.new batch.new ≡ treat (space_of S.owner holdings.old) holdings.old.worker (pending F.values bound nodes holdings.old batch.old) (message_of (F.values (ranges holdings.old.space.task)) message)) }
+        pending F.values bound nodes holdings.new batch.new ≡ treat (space_of S.owner holdings.old) holdings.old.worker
+        (pending F.values bound nodes holdings.old batch.old) (message_of (F.values (ranges holdings.old.space.task)) message)) }
     ensures batch { OnOk result (IsBatch F.IsForm F.values S.owner holdings.new batch.new) }
     ensures hints { OnOk result (AreHintsFor F.hash_input batch.new.own.items batch.new.hints.items) }
     ensures posted { ArePosted holdings.old holdings.new batch.old.receivers.items batch.new.receivers.items }
@@ -130,7 +131,9 @@ fn place<S: Spread + Drop, F: StateForm + Drop>(
     requires hints { AreHintsFor F.hash_input batch.old.own.items batch.old.hints.items }
     requires batch { IsBatch F.IsForm F.values S.owner holdings.old batch.old }
     ensures treated { OnOk result ((nodes : List Node) (t : List ℕ) → step holdings.old.space.task places.old.state successor.now.operator ≡ Some t →
-        pending F.values bound nodes holdings.new batch.new ≡ treat (space_of S.owner holdings.old) holdings.old.worker (pending F.values bound nodes holdings.old batch.old) (message_to holdings.old.space.task holdings.old.worker next.index (fresh places.old.state next.rank None) successor.now.operator t)) }
+        pending F.values bound nodes holdings.new batch.new
+        ≡ treat (space_of S.owner holdings.old) holdings.old.worker (pending F.values bound nodes holdings.old batch.old)
+        (message_to holdings.old.space.task holdings.old.worker next.index (fresh places.old.state next.rank None) successor.now.operator t)) }
     ensures batch { OnOk result (IsBatch F.IsForm F.values S.owner holdings.new batch.new) }
     ensures hints { OnOk result (AreHintsFor F.hash_input batch.new.own.items batch.new.hints.items) }
     ensures posted { ArePosted holdings.old holdings.new batch.old.receivers.items batch.new.receivers.items }
@@ -188,8 +191,12 @@ pub(crate) fn place_unknown<S: Spread + Drop, F: StateForm + Drop>(
     requires known { length known.now ≡ length successors.now }
     requires batch { IsBatch F.IsForm F.values S.owner holdings.old batch.old }
     ensures treated { OnOk result ((nodes : List Node) →
-        AreKnown (space_of S.owner holdings.old) holdings.old.worker next.index (fresh places.old.state next.rank None) (pending F.values bound nodes holdings.old batch.old).nodes (map (λ s. s.operator) successors.now) known.now →
-        pending F.values bound nodes holdings.new batch.new ≡ treat_all (space_of S.owner holdings.old) holdings.old.worker (pending F.values bound nodes holdings.old batch.old) (filter_map (successor_by holdings.old.space.task holdings.old.worker next.index (fresh places.old.state next.rank None)) (map (λ s. s.operator) successors.now))) }
+        AreKnown (space_of S.owner holdings.old) holdings.old.worker next.index (fresh places.old.state next.rank None)
+        (pending F.values bound nodes holdings.old batch.old).nodes (map (λ s. s.operator) successors.now) known.now →
+        pending F.values bound nodes holdings.new batch.new
+        ≡ treat_all (space_of S.owner holdings.old) holdings.old.worker (pending F.values bound nodes holdings.old batch.old)
+        (filter_map (successor_by holdings.old.space.task holdings.old.worker next.index (fresh places.old.state next.rank None))
+        (map (λ s. s.operator) successors.now))) }
     ensures batch { OnOk result (IsBatch F.IsForm F.values S.owner holdings.new batch.new) }
     ensures hints { OnOk result (AreHintsFor F.hash_input batch.new.own.items batch.new.hints.items) }
     ensures posted { ArePosted holdings.old holdings.new batch.old.receivers.items batch.new.receivers.items }

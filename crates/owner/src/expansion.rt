@@ -66,13 +66,16 @@ fn try_to_expand<S: Spread + Drop, F: StateForm + Drop>(
     requires places { places.old ≡ places_in holdings.old.space places.old.state }
     requires apply { All (λ o. applies_at holdings.old.space.task o places.old.state ≡ true) operators.now }
     requires small { All (IsSmallStep holdings.old.space.task next.rank) operators.now }
-    ensures treated { OnOk result ((n : Node) → At holdings.old.nodes next.index n → under holdings.new bound ≡ treat_all (space_of S.owner holdings.old) holdings.old.worker (mark_node (under holdings.old bound) next.index n) (filter_map (successor_by holdings.old.space.task holdings.old.worker next.index (fresh places.old.state next.rank None)) operators.now)) }
+    ensures treated { OnOk result ((n : Node) → At holdings.old.nodes next.index n → under holdings.new bound
+        ≡ treat_all (space_of S.owner holdings.old) holdings.old.worker (mark_node (under holdings.old bound) next.index n)
+        (filter_map (successor_by holdings.old.space.task holdings.old.worker next.index (fresh places.old.state next.rank None)) operators.now)) }
     ensures ever { OnOk result (holdings.new.ever ≡ padded (slice_set holdings.old.ever next.index true) (length holdings.new.nodes)) }
     ensures put_out { OnOk result (waiting holdings.new.outboxes ≡ waiting holdings.old.outboxes + length buffers.new.batch.receivers.items) }
     ensures owners { OnOk result (length holdings.new.outboxes ≡ length holdings.old.outboxes) }
     ensures space { OnOk result (holdings.new.space ≡ holdings.old.space) }
     ensures worker { OnOk result (holdings.new.worker ≡ holdings.old.worker) }
-    ensures counted { OnOk result (holdings.new.expansions ≡ (if is_some holdings.old.space.limit then suc holdings.old.expansions else holdings.old.expansions)) }
+    ensures counted { OnOk result (holdings.new.expansions
+        ≡ (if is_some holdings.old.space.limit then suc holdings.old.expansions else holdings.old.expansions)) }
     ensures posted { OnErr result (ArePosted holdings.old holdings.new [] buffers.new.batch.receivers.items) }
     ensures places { places.new ≡ places.old }
 {
@@ -126,13 +129,16 @@ pub(crate) fn expand_node<S: Spread + Drop, F: StateForm + Drop>(
     requires places { places.old ≡ places_in holdings.old.space places.old.state }
     requires apply { All (λ o. applies_at holdings.old.space.task o places.old.state ≡ true) operators.now }
     requires small { All (IsSmallStep holdings.old.space.task next.rank) operators.now }
-    ensures treated { OnOk result ((n : Node) → At holdings.old.nodes next.index n → under holdings.new bound ≡ treat_all (space_of S.owner holdings.old) holdings.old.worker (mark_node (under holdings.old bound) next.index n) (filter_map (successor_by holdings.old.space.task holdings.old.worker next.index (fresh places.old.state next.rank None)) operators.now)) }
+    ensures treated { OnOk result ((n : Node) → At holdings.old.nodes next.index n → under holdings.new bound
+        ≡ treat_all (space_of S.owner holdings.old) holdings.old.worker (mark_node (under holdings.old bound) next.index n)
+        (filter_map (successor_by holdings.old.space.task holdings.old.worker next.index (fresh places.old.state next.rank None)) operators.now)) }
     ensures ever { OnOk result (holdings.new.ever ≡ padded (slice_set holdings.old.ever next.index true) (length holdings.new.nodes)) }
     ensures posted { IfOk result (λ posted. waiting holdings.new.outboxes ≡ waiting holdings.old.outboxes + posted) }
     ensures owners { length holdings.new.outboxes ≡ length holdings.old.outboxes }
     ensures space { holdings.new.space ≡ holdings.old.space }
     ensures worker { holdings.new.worker ≡ holdings.old.worker }
-    ensures counted { OnOk result (holdings.new.expansions ≡ (if is_some holdings.old.space.limit then suc holdings.old.expansions else holdings.old.expansions)) }
+    ensures counted { OnOk result (holdings.new.expansions
+        ≡ (if is_some holdings.old.space.limit then suc holdings.old.expansions else holdings.old.expansions)) }
     ensures unchanged { OnErr result (holdings.new ≡ holdings.old) }
     ensures places { places.new ≡ places.old }
 {
@@ -153,7 +159,8 @@ pub(crate) fn expand_alone<S: Spread + Drop, F: StateForm + Drop>(
 ) -> Result<(), AllocError>
     requires allowed { holdings.old.space.limit ≢ Some holdings.old.expansions }
     requires some { (e : EntryOf) × IsLeast holdings.old.space.ties (h_of holdings.old.space) holdings.old.nodes holdings.old.ever e }
-    ensures expanded { OnOk result ((e : EntryOf) (n : Node) → IsLeast holdings.old.space.ties (h_of holdings.old.space) holdings.old.nodes holdings.old.ever e →
+    ensures expanded { OnOk result ((e : EntryOf) (n : Node) →
+        IsLeast holdings.old.space.ties (h_of holdings.old.space) holdings.old.nodes holdings.old.ever e →
         At holdings.old.nodes e.index n → holdings.new ≡ record holdings.old {
           nodes = slice_set holdings.old.nodes e.index (marked n);
           ever = padded (slice_set holdings.old.ever e.index true) (length holdings.new.nodes);

@@ -82,7 +82,8 @@ impl<'a, S: Spread + Drop, F: StateForm + Drop> Holdings<'a, S, F> {
     ) -> Result<Holdings<'a, S, F>, AllocError>
         requires worker { worker < owners }
         requires fits { F.Fits (ranges space.now.task) }
-        ensures started { IfOk result (λ o. under o Infinite ≡ start_owner (searched S.owner space.now owners) (S.owner space.now.spread space.now.task.initial owners == worker)) }
+        ensures started { IfOk result (λ o. under o Infinite
+            ≡ start_owner (searched S.owner space.now owners) (S.owner space.now.spread space.now.task.initial owners == worker)) }
         ensures ever { IfOk result (λ o. o.ever ≡ padded [] (length o.nodes)) }
         ensures space { IfOk result (λ o. o.space ≡ space.now) }
         ensures worker { IfOk result (λ o. o.worker ≡ worker) }
@@ -90,13 +91,13 @@ impl<'a, S: Spread + Drop, F: StateForm + Drop> Holdings<'a, S, F> {
         ensures owners { IfOk result (λ o. length o.outboxes ≡ owners) }
     {
         let task = space.task();
+        let initial = task.initial();
         let mut reached = Reached::new(alloc, space)?;
         let mut best = Dist::inf();
-        if space.owner_of(task.initial(), owners) == worker {
-            reached.reach(task.initial(), Rank { cost: 0, steps: 0 }, None)?;
-            if task.is_goal(task.initial()) {
-                best = Dist::ZERO;
-            }
+        if space.owner_of(initial, owners) == worker {
+            let form = F::pack(alloc, space.layout(), initial)?;
+            reached.reach(&form, initial, Rank { cost: 0, steps: 0 }, None)?;
+            best = best_with(best, task.is_goal(initial), 0);
         }
         Ok(Holdings {
             worker,
@@ -107,22 +108,26 @@ impl<'a, S: Spread + Drop, F: StateForm + Drop> Holdings<'a, S, F> {
         })
     }
 
-    /// Takes a state of its own. On failure the owner is unchanged.
+    /// Takes a state of its own. `state` is the form's values. On failure the owner is unchanged.
     pub(crate) fn take(
         &mut self,
+        form: &F,
         state: &[u32],
         rank: Rank,
         parent: Parent,
     ) -> Result<(), AllocError>
-        requires { IsMessageTo (space_of S.owner self.old) self.old.worker (message_at state.now rank parent) }
-        ensures taken { OnOk result ((bound : Distance) → under self.new bound ≡ took (space_of S.owner self.old) (under self.old bound) (message_at state.now rank parent)) }
+        requires message { IsMessageTo (space_of S.owner self.old) self.old.worker (message_at state.now rank parent) }
+        requires form { F.IsForm (ranges self.old.space.task) form.now }
+        requires values { F.values (ranges self.old.space.task) form.now ≡ state.now }
+        ensures taken { OnOk result ((bound : Distance) → under self.new bound
+            ≡ took (space_of S.owner self.old) (under self.old bound) (message_at state.now rank parent)) }
         ensures ever { OnOk result (self.new.ever ≡ padded self.old.ever (length self.new.nodes)) }
         ensures space { self.new.space ≡ self.old.space }
         ensures worker { self.new.worker ≡ self.old.worker }
         ensures expansions { self.new.expansions ≡ self.old.expansions }
         ensures unchanged { OnErr result (self.new ≡ self.old) }
     {
-        self.reached.reach(state, rank, Some(parent))?;
+        self.reached.reach(form, state, rank, Some(parent))?;
         let is_goal = self.reached.space().task().is_goal(state);
         self.best = best_with(self.best, is_goal, rank.cost);
         Ok(())
@@ -175,7 +180,11 @@ impl<'a, S: Spread + Drop, F: StateForm + Drop> Holdings<'a, S, F> {
     ) -> Result<(), AllocError>
         requires to { to < length self.old.outboxes }
         requires fits { IsMessageTo (space_of S.owner self.old) to (message_of (F.values (ranges self.old.space.task)) message) }
-        ensures posted { OnOk result (self.new ≡ record self.old { outboxes = slice_set self.old.outboxes to (list_at self.old.outboxes to ++ message_of (F.values (ranges self.old.space.task)) message ∷ []) }) }
+        ensures posted { OnOk result (self.new
+            ≡ record self.old {
+              outboxes = slice_set self.old.outboxes to
+                  (list_at self.old.outboxes to ++ message_of (F.values (ranges self.old.space.task)) message ∷ []);
+            }) }
         ensures receivers { OnOk result (receivers.new.items ≡ receivers.old.items ++ to ∷ []) }
         ensures unchanged { OnErr result (self.new ≡ self.old) }
         ensures same { OnErr result (receivers.new.items ≡ receivers.old.items) }
@@ -197,7 +206,8 @@ impl<'a, S: Spread + Drop, F: StateForm + Drop> Holdings<'a, S, F> {
 
     /// Returns the entry of the open node that is to be expanded next, if its f-value is below the bound.
     pub(crate) fn next(&self, bound: Dist) -> Option<OpenEntry>
-        ensures some { IfSome result (λ e. IsLeast self.now.space.ties (h_of self.now.space) self.now.nodes self.now.ever e × (is_at_most bound (Finite e.f) ≡ false)) }
+        ensures some { IfSome result
+            (λ e. IsLeast self.now.space.ties (h_of self.now.space) self.now.nodes self.now.ever e × (is_at_most bound (Finite e.f) ≡ false)) }
         ensures none { result ≡ None → no_open (space_of S.owner self.now) (under self.now bound) ≡ true }
     {
         let entry = self.reached.least()?;
@@ -221,7 +231,8 @@ impl<'a, S: Spread + Drop, F: StateForm + Drop> Holdings<'a, S, F> {
         requires some { (e : EntryOf) × IsLeast self.old.space.ties (h_of self.old.space) self.old.nodes self.old.ever e }
         requires batch { IsBatch F.IsForm F.values S.owner self.old batch.old }
         requires hints { AreHintsFor F.hash_input batch.old.own.items batch.old.hints.items }
-        ensures expanded { OnOk result ((e : EntryOf) (n : Node) → IsLeast self.old.space.ties (h_of self.old.space) self.old.nodes self.old.ever e → At self.old.nodes e.index n →
+        ensures expanded { OnOk result ((e : EntryOf) (n : Node) →
+            IsLeast self.old.space.ties (h_of self.old.space) self.old.nodes self.old.ever e → At self.old.nodes e.index n →
             self.new ≡ record self.old {
               nodes = fold improve (slice_set self.old.nodes e.index (marked n)) (map (message_of (F.values (ranges self.old.space.task))) batch.old.own.items);
               ever = padded (slice_set self.old.ever e.index true) (length self.new.nodes);
@@ -243,7 +254,8 @@ impl<'a, S: Spread + Drop, F: StateForm + Drop> Holdings<'a, S, F> {
     /// Removes and returns the oldest message for owner `to`, or returns `None` if there is none.
     pub(crate) fn next_out(&mut self, to: usize) -> Option<Message<F>>
         requires { to < length self.old.outboxes }
-        ensures first { list_at self.old.outboxes to ≡ map (message_of (F.values (ranges self.old.space.task))) (option_to_list result) ++ list_at self.new.outboxes to }
+        ensures first { list_at self.old.outboxes to
+            ≡ map (message_of (F.values (ranges self.old.space.task))) (option_to_list result) ++ list_at self.new.outboxes to }
         ensures others { self.new ≡ record self.old { outboxes = slice_set self.old.outboxes to (list_at self.new.outboxes to) } }
         ensures fits { IfSome result (λ m. IsMessageTo (space_of S.owner self.old) to (message_of (F.values (ranges self.old.space.task)) m)) }
         ensures none { IfNone result (list_at self.old.outboxes to ≡ []) }

@@ -1,6 +1,6 @@
 //! The owner of states.
 
-ghost use Rattle.std.specs.Prelude.{◌≡◌, ◌≢◌, ◌⊎◌, true, false, IsTrue, ℕ, ◌<◌, ◌++◌, [], ◌==◌, length, map, slice_get, slice_set, Some, All, IfOk, IfErr, IfSome, IfNone, OnOk};
+ghost use Rattle.std.specs.Prelude.{◌≡◌, ◌≢◌, ◌⊎◌, true, false, IsTrue, ℕ, ◌<◌, ◌++◌, [], ◌==◌, length, map, slice_get, slice_set, Some, All, IfOk, IfErr, IfSome, IfNone, OnOk, OnErr};
 ghost use Rattle.std.specs.Option.{option_to_list};
 ghost use Rattle.cost.specs.Distances.{Distance, Infinite};
 ghost use Rattle.fdr.specs.Tasks.{ranges, IsState, is_goal_state};
@@ -9,7 +9,9 @@ ghost use Rattle.owner_theory.specs.Worlds.{idle, waiting};
 ghost use Rattle.owner_theory.specs.Families.{IsSearchSpace, IsLowerBound};
 ghost use Rattle.closed.specs.declared.table.Outcome.TheVariants.{Kept};
 ghost use Rattle.closed.specs.Tables.{padded, message_of, node_with, outcome_of, arrival};
+ghost use Rattle.openlist.specs.BucketLists.{all_entries};
 ghost use Rattle.owner_space.specs.Spaces.{searched};
+ghost use Rattle.owner_reached.specs.Queues.{h_of, IsQueue};
 ghost use Rattle.owner.specs.Outboxes.{count_in_use};
 ghost use Rattle.owner.specs.Owned.{space_of, under, IsMessageTo, IsExpansion, IsRefusal, IsKept, least_open};
 
@@ -18,6 +20,7 @@ use crate::fault::OwnerFault;
 use crate::holdings::Holdings;
 use closed::{Entry, Message};
 use cost::Dist;
+use openlist::Buckets;
 use owner_space::{Space, all_are_late, drop_late, has_large_successor};
 use packed::{Layout, StateForm};
 use packed_spread::Spread;
@@ -67,6 +70,35 @@ fn unpack<F: StateForm + Drop>(message: &Message<F>, layout: &Layout, state: &mu
     message.state.unpack(layout, state);
 }
 
+/// Takes a message whose state has the values `state`. It may be in another form than those that are stored, as bits
+/// outside all values are ignored, and is then packed again. On failure the owner is unchanged.
+fn take_form<S: Spread + Drop, F: StateForm + Drop>(
+    alloc: Global,
+    holdings: &mut Holdings<'_, S, F>,
+    message: &Message<F>,
+    state: &[u32],
+) -> Result<(), AllocError>
+    requires fits { IsMessageTo (space_of S.owner holdings.old) holdings.old.worker
+        (message_of (F.values (ranges holdings.old.space.task)) message.now) }
+    requires values { F.values (ranges holdings.old.space.task) message.now.state ≡ state.now }
+    ensures taken { OnOk result ((bound : Distance) → under holdings.new bound
+        ≡ took (space_of S.owner holdings.old) (under holdings.old bound)
+        (message_of (F.values (ranges holdings.old.space.task)) message.now)) }
+    ensures ever { OnOk result (holdings.new.ever ≡ padded holdings.old.ever (length holdings.new.nodes)) }
+    ensures space { holdings.new.space ≡ holdings.old.space }
+    ensures worker { holdings.new.worker ≡ holdings.old.worker }
+    ensures expansions { holdings.new.expansions ≡ holdings.old.expansions }
+    ensures unchanged { OnErr result (holdings.new ≡ holdings.old) }
+{
+    holdings.recall(); // states of the task have the form
+    let layout = holdings.space().layout();
+    if message.state.is_form(layout) {
+        return holdings.take(&message.state, state, message.rank, message.parent);
+    }
+    let form = F::pack(alloc, layout, state)?;
+    holdings.take(&form, state, message.rank, message.parent)
+}
+
 /// Writes the values of the state at the index into `state`.
 fn read_state<S: Spread + Drop, F: StateForm + Drop>(
     holdings: &Holdings<'_, S, F>,
@@ -92,7 +124,8 @@ impl<'a, S: Spread + Drop, F: StateForm + Drop> Owner<'a, S, F> {
     ) -> Result<Owner<'a, S, F>, AllocError>
         requires worker { worker < owners }
         requires fits { F.Fits (ranges space.now.task) }
-        ensures started { IfOk result (λ o. under o Infinite ≡ start_owner (searched S.owner space.now owners) (S.owner space.now.spread space.now.task.initial owners == worker)) }
+        ensures started { IfOk result (λ o. under o Infinite
+            ≡ start_owner (searched S.owner space.now owners) (S.owner space.now.spread space.now.task.initial owners == worker)) }
         ensures ever { IfOk result (λ o. o.ever ≡ padded [] (length o.nodes)) }
         ensures space { IfOk result (λ o. o.space ≡ space.now) }
         ensures worker { IfOk result (λ o. o.worker ≡ worker) }
@@ -115,7 +148,8 @@ impl<'a, S: Spread + Drop, F: StateForm + Drop> Owner<'a, S, F> {
     /// Takes a message. On failure returns the message, and the owner is unchanged.
     pub fn take(&mut self, message: Message<F>) -> Result<(), (Message<F>, AllocError)>
         requires { IsMessageTo (space_of S.owner self.old) self.old.worker (message_of (F.values (ranges self.old.space.task)) message) }
-        ensures taken { OnOk result ((bound : Distance) → under self.new bound ≡ took (space_of S.owner self.old) (under self.old bound) (message_of (F.values (ranges self.old.space.task)) message)) }
+        ensures taken { OnOk result ((bound : Distance) → under self.new bound
+            ≡ took (space_of S.owner self.old) (under self.old bound) (message_of (F.values (ranges self.old.space.task)) message)) }
         ensures ever { OnOk result (self.new.ever ≡ padded self.old.ever (length self.new.nodes)) }
         ensures space { self.new.space ≡ self.old.space }
         ensures worker { self.new.worker ≡ self.old.worker }
@@ -124,10 +158,7 @@ impl<'a, S: Spread + Drop, F: StateForm + Drop> Owner<'a, S, F> {
     {
         self.holdings.recall(); // states of the task have the form
         unpack(&message, self.holdings.space().layout(), &mut self.state);
-        match self
-            .holdings
-            .take(&self.state, message.rank, message.parent)
-        {
+        match take_form(self.alloc, &mut self.holdings, &message, &self.state) {
             Ok(()) => Ok(()),
             Err(error) => Err((message, error)),
         }
@@ -139,7 +170,8 @@ impl<'a, S: Spread + Drop, F: StateForm + Drop> Owner<'a, S, F> {
     pub fn knows(&self, message: &Message<F>) -> bool
         ensures state { IsTrue result → IsState (ranges self.now.space.task) (F.values (ranges self.now.space.task) message.now.state) }
         ensures owner { IsTrue result → (space_of S.owner self.now).owner_of (F.values (ranges self.now.space.task) message.now.state) ≡ self.now.worker }
-        ensures nothing { IsTrue result → (bound : Distance) → under self.now bound ≡ took (space_of S.owner self.now) (under self.now bound) (message_of (F.values (ranges self.now.space.task)) message.now) }
+        ensures nothing { IsTrue result → (bound : Distance) → under self.now bound
+            ≡ took (space_of S.owner self.now) (under self.now bound) (message_of (F.values (ranges self.now.space.task)) message.now) }
         ensures unknown { result ≡ false → F.IsForm (ranges self.now.space.task) message.now.state →
             (outcome_of self.now.nodes (arrival (F.values (ranges self.now.space.task)) message.now) ≢ Kept)
             ⊎ (is_goal_state self.now.space.task (F.values (ranges self.now.space.task) message.now.state) ≡ true) }
@@ -194,7 +226,8 @@ impl<'a, S: Spread + Drop, F: StateForm + Drop> Owner<'a, S, F> {
     /// Removes and returns the oldest message for owner `to`, or returns `None` if there is none.
     pub fn next_out(&mut self, to: usize) -> Option<Message<F>>
         requires { to < length self.old.outboxes }
-        ensures first { list_at self.old.outboxes to ≡ map (message_of (F.values (ranges self.old.space.task))) (option_to_list result) ++ list_at self.new.outboxes to }
+        ensures first { list_at self.old.outboxes to
+            ≡ map (message_of (F.values (ranges self.old.space.task))) (option_to_list result) ++ list_at self.new.outboxes to }
         ensures others { self.new ≡ record self.old { outboxes = slice_set self.old.outboxes to (list_at self.new.outboxes to) } }
         ensures fits { IfSome result (λ m. IsMessageTo (space_of S.owner self.old) to (message_of (F.values (ranges self.old.space.task)) m)) }
         ensures none { IfNone result (list_at self.old.outboxes to ≡ []) }
@@ -258,6 +291,14 @@ impl<'a, S: Spread + Drop, F: StateForm + Drop> Owner<'a, S, F> {
         ensures { result ≡ self.now.expansions }
     {
         self.holdings.expansions
+    }
+
+    /// Returns the open list. Its entries are keyed by the tie-breaking rule and by whether their nodes were ever
+    /// expanded. Entries other than the first may be stale: those of nodes that have since been improved or expanded.
+    pub fn queue(&self) -> &Buckets
+        ensures { IsQueue self.now.space.ties (h_of self.now.space) self.now.nodes self.now.ever (all_entries result.now) }
+    {
+        self.holdings.reached.queue()
     }
 
     /// Returns the space that the owner searches.

@@ -58,7 +58,8 @@ fn owner_of_successor<S: Spread + Drop, F: StateForm + Drop>(
 ) -> usize
     requires state { IsState (ranges holdings.now.space.task) state.now }
     requires hash { length holdings.now.outboxes ≢ 1 → hash ≡ S.state_hash holdings.now.space.spread state.now }
-    ensures value { result ≡ S.owner holdings.now.space.spread (with_values (effect_at holdings.now.space.task operator) state.now) (length holdings.now.outboxes) }
+    ensures value { result
+        ≡ S.owner holdings.now.space.spread (with_values (effect_at holdings.now.space.task operator) state.now) (length holdings.now.outboxes) }
     ensures below { result < length holdings.now.outboxes }
 {
     holdings.recall(); // there is an owner
@@ -200,7 +201,8 @@ pub(crate) fn look_up<S: Spread + Drop, F: StateForm + Drop>(
     ensures as_many { OnOk result (length known.new.items ≡ length successors.now) }
     ensures as_many_hints { OnOk result (length hints.new.items ≡ length successors.now) }
     ensures hints { OnOk result (AreOwnHints F.hash_input holdings.now.worker successors.now hints.new.items) }
-    ensures known { OnOk result (AreKnown (space_of S.owner holdings.now) holdings.now.worker next.index (fresh state.now next.rank None) holdings.now.nodes (map (λ s. s.operator) successors.now) known.new.items) }
+    ensures known { OnOk result (AreKnown (space_of S.owner holdings.now) holdings.now.worker next.index
+        (fresh state.now next.rank None) holdings.now.nodes (map (λ s. s.operator) successors.now) known.new.items) }
 {
     read_hints(holdings, successors, hints)?;
     known.clear();

@@ -134,7 +134,7 @@ quiet_trans S me a b c p q = record {
 
 -- ---- a message is taken
 abbrev pub after_taking : SearchSpace → Log → Message → List Packet → Log
-after_taking S l m ps = record { owner = took S l.owner m; taken = ps; handed = l.handed; seen = l.seen; offered = l.offered }
+after_taking S l m ps = record l { owner = took S l.owner m; taken = ps }
 
 took_later : (S : SearchSpace) (l : Log) (m : Message) (ps : List Packet) → ((p : Packet) → In p l.taken → In p ps)
     → Later S l (after_taking S l m ps)
@@ -221,7 +221,7 @@ took_quiet S me l m ps c sub new fits mine came = record {
 
 -- a successor is dropped, taken or posted
 abbrev pub at_owner : Log → Owner → Log
-at_owner l o = record { owner = o; taken = l.taken; handed = l.handed; seen = l.seen; offered = l.offered }
+at_owner l o = record l { owner = o }
 
 put_in : (f : List (List Message)) (v : ℕ) (m : Message) (u : ℕ) (k : Message) → In k
     (list_at (slice_set f v (list_at f v ++ m ∷ [])) u) → In k (list_at f u) ⊎ ((m ≡ k) × (u ≡ v))

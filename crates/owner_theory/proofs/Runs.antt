@@ -3,12 +3,12 @@ use Rattle.std.proofs.Common.{replicate, length-set, ◌≡◌, ◌⊎◌, ℕ, 
 use Rattle.std.specs.Prelude.{slice_get, slice_set}
 use Rattle.std.proofs.lemmas.Bool.{cond_both, and_parts, eqb-true, eq-eqb}
 use Rattle.std.proofs.lemmas.List.{length-replicate}
-use Rattle.cost.specs.Distances.{Distance, Finite, Infinite, ◌≤ᵈ◌}
+use Rattle.cost.specs.Distances.{Distance, Finite, Infinite, ◌≤ᵈ◌, lesser}
 use Rattle.cost.proofs.DistanceLaws.{at_most_itself, lesser_at_most_left, lesser_at_most_right, at_most_lesser}
 use Rattle.fdr.specs.Tasks.{ranges, IsTask, IsState, is_goal_state, cost_of}
 use Rattle.checker_clauses.specs.Clauses.{is_state}
 use Rattle.checker_clauses.proofs.ClauseLaws.{is_state_tells}
-use Rattle.owner_theory.specs.Owners.{At, list_at, SearchSpace, Parent, Message, Node, Packet, Owner, Log, Event, Take, Expand, HandOut, Look, Offer, treat_all, successors, marked, mark_node, may_expand, expanded_at, fits, handed_out, happens, first_node, start_owner, run, IsRun}
+use Rattle.owner_theory.specs.Owners.{At, list_at, SearchSpace, Parent, Message, Node, Packet, Owner, Log, Event, Take, Expand, HandOut, Look, Offer, treat_all, successors, marked, mark_node, may_expand, expanded_at, count_at, fits, handed_out, happens, first_node, start_owner, run, IsRun}
 use Rattle.owner_theory.specs.Families.{IsSearchSpace, In}
 use Rattle.owner_theory.proofs.Nodes.{rank_refl, grows_refl, grows_has, mark_at, mark_there, mark_grows, mark_apart}
 use Rattle.owner_theory.proofs.Owners.{IsMade, Later, later_trans, Came, later_came, IsOurs, grows_ours, Core, Treated, later_treated, Did, Good, Quiet, quiet_good, after_taking, took_quiet, at_owner, treat_all_quiet}
@@ -180,16 +180,23 @@ hand_good S me v l (m ∷ ms) is h = quiet_good S me l l' h (record {
         (λ r. r) q))
         (λ (q : In k (m ∷ l.handed)). handed_cases k q) made
 
-look_good : (S : SearchSpace) (me : ℕ) (l : Log) (b : Distance) → Good S me l → Good S me (happens S me l (Look b))
-look_good S me l b h = quiet_good S me l (happens S me l (Look b)) h (record {
+-- ---- reading, offering and counting
+-- the log with other bounds read, another least cost offered, and another number of expansions
+abbrev noted : Log → Distance → Distance → Distance → ℕ → Log
+noted l bound seen offered expansions =
+    record l { owner = record l.owner { bound = bound }; seen = seen; offered = offered; expansions = expansions }
+
+noted_good : (S : SearchSpace) (me : ℕ) (l : Log) (bound seen offered : Distance) (expansions : ℕ) → seen ≤ᵈ l.seen → seen ≤ᵈ bound
+    → l.owner.best ≤ᵈ offered → Good S me l → Good S me (noted l bound seen offered expansions)
+noted_good S me l bound seen offered expansions less below above h = quiet_good S me l (noted l bound seen offered expansions) h (record {
   core = record {
     own = h.core.own;
     apart = h.core.apart;
-    came = λ i e at. later_came S me l (happens S me l (Look b)) e e.parent later (h.core.came i e at);
+    came = λ i e at. later_came S me l (noted l bound seen offered expansions) e e.parent later (h.core.came i e at);
     goal = h.core.goal;
     best = h.core.best;
-    offered = h.core.offered;
-    bound = lesser_at_most_right l.seen b;
+    offered = above;
+    bound = below;
     taken = h.core.taken;
     ours = h.core.ours;
     begun = h.core.begun;
@@ -200,31 +207,24 @@ look_good S me l b h = quiet_good S me l (happens S me l (Look b)) h (record {
   still = λ i e at done. at;
 })
   where
-    later : Later S l (happens S me l (Look b))
-    later = record { grows = grows_refl l.owner.nodes; made = λ k q. q; taken = λ p q. q; seen = lesser_at_most_left l.seen b }
+    later : Later S l (noted l bound seen offered expansions)
+    later = record { grows = grows_refl l.owner.nodes; made = λ k q. q; taken = λ p q. q; seen = less }
+
+expand_event_good : (S : SearchSpace) (me : ℕ) (l : Log) (i : ℕ) → IsSearchSpace S → Good S me l → Good S me (happens S me l (Expand i))
+expand_event_good S me l i ok h =
+    let after = at_owner l (expanded_at S me l.owner i (slice_get l.owner.nodes i)) in
+    let good_after : Good S me after = expand_or_not S me l i (slice_get l.owner.nodes i) refl ok h in
+    noted_good S me after after.owner.bound l.seen l.offered (l.expansions + count_at S l.owner (slice_get l.owner.nodes i)) (at_most_itself l.seen)
+    good_after.core.bound good_after.core.offered good_after
+
+look_good : (S : SearchSpace) (me : ℕ) (l : Log) (b : Distance) → Good S me l → Good S me (happens S me l (Look b))
+look_good S me l b h =
+    noted_good S me l b (lesser l.seen b) l.offered l.expansions (lesser_at_most_left l.seen b) (lesser_at_most_right l.seen b) h.core.offered h
 
 offer_good : (S : SearchSpace) (me : ℕ) (l : Log) → Good S me l → Good S me (happens S me l Offer)
-offer_good S me l h = quiet_good S me l (happens S me l Offer) h (record {
-  core = record {
-    own = h.core.own;
-    apart = h.core.apart;
-    came = λ i e at. later_came S me l (happens S me l Offer) e e.parent later (h.core.came i e at);
-    goal = h.core.goal;
-    best = h.core.best;
-    offered = at_most_lesser l.owner.best l.offered l.owner.best h.core.offered (at_most_itself l.owner.best);
-    bound = h.core.bound;
-    taken = h.core.taken;
-    ours = h.core.ours;
-    begun = h.core.begun;
-    queued = h.core.queued;
-    width = h.core.width;
-  };
-  later = later;
-  still = λ i e at done. at;
-})
-  where
-    later : Later S l (happens S me l Offer)
-    later = record { grows = grows_refl l.owner.nodes; made = λ k q. q; taken = λ p q. q; seen = at_most_itself l.seen }
+offer_good S me l h =
+    noted_good S me l l.owner.bound l.seen (lesser l.offered l.owner.best) l.expansions (at_most_itself l.seen) h.core.bound
+    (at_most_lesser l.owner.best l.offered l.owner.best h.core.offered (at_most_itself l.owner.best)) h
 
 -- ---- the beginning
 none_boxed : (n v : ℕ) → list_at {X = Message} (replicate n []) v ≡ []
@@ -233,7 +233,7 @@ none_boxed (suc n) zero = refl
 none_boxed (suc n) (suc v) = none_boxed n v
 
 abbrev begun : Owner → Log
-begun o = record { owner = o; taken = []; handed = []; seen = Infinite; offered = Infinite }
+begun o = record { owner = o; taken = []; handed = []; seen = Infinite; offered = Infinite; expansions = 0 }
 
 start_goal : (b : Bool) → b ≡ true → cond b (Finite 0) Infinite ≤ᵈ Finite 0
 start_goal true e = omega arith
@@ -304,7 +304,7 @@ start_good S me false ok is = record {
 -- every run keeps them
 event_good : (S : SearchSpace) (me : ℕ) (l : Log) (e : Event) → IsSearchSpace S → Good S me l → Good S me (happens S me l e)
 event_good S me l (Take from m) ok h = take_good S me l from m h
-event_good S me l (Expand i) ok h = expand_or_not S me l i (slice_get l.owner.nodes i) refl ok h
+event_good S me l (Expand i) ok h = expand_event_good S me l i ok h
 event_good S me l (HandOut v) ok h = hand_good S me v l (list_at l.owner.outboxes v) refl h
 event_good S me l (Look b) ok h = look_good S me l b h
 event_good S me l Offer ok h = offer_good S me l h

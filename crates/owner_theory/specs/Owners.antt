@@ -75,14 +75,15 @@ pub record Owner : Type 0 where
   pub bound : Distance
   pub best : Distance
 
--- an owner and its history: messages taken and handed out (the last one first), the least bound read, and the least
--- cost offered
+-- an owner and its history: messages taken and handed out (the last one first), the least bound read, the least cost
+-- offered, and the number of expansions
 pub record Log : Type 0 where
   pub owner : Owner
   pub taken : List Packet
   pub handed : List Message
   pub seen : Distance
   pub offered : Distance
+  pub expansions : ℕ
 
 -- ---- taking a message
 
@@ -177,6 +178,11 @@ expanded_at space me o index (Some n) =
     then treat_all space me (mark_node o index n) (successors space.task me index n)
     else o
 
+-- the number of nodes that are expanded at an index with this node: one if it may be expanded, else none
+abbrev pub count_at : SearchSpace → Owner → Option Node → ℕ
+count_at space o None = 0
+count_at space o (Some n) = if may_expand space o n then 1 else 0
+
 -- ---- runs
 
 -- whether this owner may take a message: its state is a state of the task, and belongs to this owner
@@ -213,7 +219,11 @@ happens space me l (Take sender m) =
     if fits space me m
     then record l { owner = took space l.owner m; taken = record { sender = sender; message = m } ∷ l.taken }
     else l
-happens space me l (Expand i) = record l { owner = expanded_at space me l.owner i (slice_get l.owner.nodes i) }
+happens space me l (Expand i) =
+    record l {
+      owner = expanded_at space me l.owner i (slice_get l.owner.nodes i);
+      expansions = l.expansions + count_at space l.owner (slice_get l.owner.nodes i);
+    }
 happens space me l (HandOut v) = handed_out v l (list_at l.owner.outboxes v)
 happens space me l (Look b) =
     record l {
@@ -244,6 +254,7 @@ start space me =
       handed = [];
       seen = Infinite;
       offered = Infinite;
+      expansions = 0;
     }
 
 -- the log of an owner after these events, which are listed with the last one first

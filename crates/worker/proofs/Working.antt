@@ -9,9 +9,9 @@ use Rattle.owner_theory.specs.Owners as machine
 use Rattle.owner_theory.specs.Owners.{SearchSpace, Message, Packet, Log, Look, Offer, HandOut, Take, Expand, fits, list_at, put, handed_out, happens, start, start_owner, took, expanded_at}
 use Rattle.owner_theory.specs.Threads.{IsWorker}
 use Rattle.owner_theory.proofs.Joins.{begins, acts, takes, misses, holds_out, pushes}
-use Rattle.owner_theory.proofs.Lists.{get_at as at_read}
 use Rattle.owner.specs.Spaces.{SpaceOf, searched}
 use Rattle.owner.specs.Owned.{OwnerOf, space_of, under, IsMessageTo, Expands, IsExpansion}
+use Rattle.owner.proofs.Logs.{first_log, log_after, log_expanded}
 use Rattle.links.specs.declared.ends.Out.{Out}
 use Rattle.links.specs.declared.ends.In.{In}
 use Rattle.worker.specs.Matching.{IsMatchedUp}
@@ -53,7 +53,7 @@ module _ {S F : Type 0} (owner : S → List ℕ → ℕ → ℕ) (values : List 
   pub counted : (w : WorkerOf S F) (r : Bool) (u t : ℕ) → IsKept owner values w → IsKept owner values (record w { resting = r; uncounted = u; taken = t })
   counted w r u t kept = kept_after w (record w { resting = r; uncounted = u; taken = t }) kept refl refl refl (λ log working. (
     log,
-    record { works = working.works; owner_is = working.owner_is; seen_is = working.seen_is; offered_is = working.offered_is },
+    record { works = working.works; log_is = working.log_is; seen_is = working.seen_is; offered_is = working.offered_is },
   ))
 
   -- ---- looking and offering
@@ -62,7 +62,8 @@ module _ {S F : Type 0} (owner : S → List ℕ → ℕ → ℕ) (values : List 
     happens (space_of owner w.owner) w.owner.worker log (Look b),
     record {
       works = acts (space_of owner w.owner) w.owner.worker log (sent_to (values_in values w) w.outs) (received_from (values_in values w) w.ins) [] w.misfits (Look b) refl refl working.works;
-      owner_is = ap (λ (o : machine.Owner). let after : machine.Owner = record { nodes = o.nodes; outboxes = o.outboxes; bound = b; best = o.best } in after) working.owner_is;
+      log_is = log_after log (happens (space_of owner w.owner) w.owner.worker log (Look b)) w.owner w.owner w.bound b working.log_is
+          (ap (λ (o : machine.Owner). let after : machine.Owner = record { nodes = o.nodes; outboxes = o.outboxes; bound = b; best = o.best } in after) working.log_is.owner) refl refl refl;
       seen_is = ap (λ d. lesser d b) working.seen_is ∙ sym is;
       offered_is = working.offered_is;
     },
@@ -73,10 +74,11 @@ module _ {S F : Type 0} (owner : S → List ℕ → ℕ → ℕ) (values : List 
     happens (space_of owner w.owner) w.owner.worker log Offer,
     record {
       works = acts (space_of owner w.owner) w.owner.worker log (sent_to (values_in values w) w.outs) (received_from (values_in values w) w.ins) [] w.misfits Offer refl refl working.works;
-      owner_is = working.owner_is;
+      log_is = log_after log (happens (space_of owner w.owner) w.owner.worker log Offer) w.owner w.owner w.bound w.bound working.log_is working.log_is.owner
+          refl refl refl;
       seen_is = working.seen_is;
       offered_is = ap (λ x. lesser x log.owner.best) working.offered_is
-          ∙ (ap (λ (o : machine.Owner). lesser w.offered o.best) working.owner_is ∙ sym is);
+          ∙ (ap (λ (o : machine.Owner). lesser w.offered o.best) working.log_is.owner ∙ sym is);
     },
   ))
 
@@ -89,7 +91,7 @@ module _ {S F : Type 0} (owner : S → List ℕ → ℕ → ℕ) (values : List 
     record {
       works = subst (λ (f : ℕ → List Message). IsWorker (space_of owner w.owner) w.owner.worker log f (received_from (values_in values w) w.ins) [] w.misfits)
           (λ j v. sym (same v) j) working.works;
-      owner_is = working.owner_is;
+      log_is = working.log_is;
       seen_is = working.seen_is;
       offered_is = working.offered_is;
     },
@@ -111,7 +113,7 @@ module _ {S F : Type 0} (owner : S → List ℕ → ℕ → ℕ) (values : List 
       with_misfits (record w { owner = p; outs = outs }) misfits same_values
       (subst (λ (o : OwnerOf S). IsKept owner values (record w { owner = o; outs = outs })) (sym others)
       (kept_after w (record w { owner = q; outs = outs }) kept len refl (length-set w.owner.outboxes to rest) (λ log working.
-      let x : log.owner ≡ under w.owner w.bound = working.owner_is in
+      let x : log.owner ≡ under w.owner w.bound = working.log_is.owner in
       let box : list_at log.owner.outboxes to ≡ m ∷ rest = ap (λ (o : machine.Owner). list_at o.outboxes to) x ∙ first in
       let space = space_of owner w.owner in
       let me = w.owner.worker in
@@ -123,8 +125,10 @@ module _ {S F : Type 0} (owner : S → List ℕ → ℕ → ℕ) (values : List 
               (sym (length-set w.owner.outboxes to rest))
               (subst (λ (f : ℕ → List Message). IsWorker space me (happens space me log (HandOut to)) f (received_from (values_in values w) w.ins) [] w.misfits)
               (λ j v. sym (sent v) j) pushed);
-          owner_is = ap (λ ms. (handed_out to log ms).owner) box
-              ∙ ap (λ (o : machine.Owner). let after : machine.Owner = record { nodes = o.nodes; outboxes = slice_set o.outboxes to rest; bound = o.bound; best = o.best } in after) x;
+          log_is = log_after log (happens space me log (HandOut to)) w.owner q w.bound w.bound working.log_is
+              (ap (λ ms. (handed_out to log ms).owner) box
+              ∙ ap (λ (o : machine.Owner). let after : machine.Owner = record { nodes = o.nodes; outboxes = slice_set o.outboxes to rest; bound = o.bound; best = o.best } in after) x)
+              (ap (λ ms. (handed_out to log ms).expansions) box) refl refl;
           seen_is = ap (λ ms. (handed_out to log ms).seen) box ∙ working.seen_is;
           offered_is = ap (λ ms. (handed_out to log ms).offered) box ∙ working.offered_is;
         },
@@ -146,7 +150,7 @@ module _ {S F : Type 0} (owner : S → List ℕ → ℕ → ℕ) (values : List 
     record {
       works = subst (λ (f : ℕ → List Message). IsWorker (space_of owner w.owner) w.owner.worker log (sent_to (values_in values w) w.outs) f [] w.misfits)
           (λ j v. sym (same v) j) working.works;
-      owner_is = working.owner_is;
+      log_is = working.log_is;
       seen_is = working.seen_is;
       offered_is = working.offered_is;
     },
@@ -168,7 +172,7 @@ module _ {S F : Type 0} (owner : S → List ℕ → ℕ → ℕ) (values : List 
           works = subst (λ (f : ℕ → List Message). IsWorker space me log (sent_to (values_in values w) w.outs) f [] one) (λ j v. sym (received v) j)
               (subst (λ ps. IsWorker space me log (sent_to (values_in values w) w.outs) (put (received_from (values_in values w) w.ins) from (received_from (values_in values w) w.ins from ++ m ∷ [])) []
               (record { sender = from; message = m } ∷ ps)) none missed);
-          owner_is = working.owner_is;
+          log_is = working.log_is;
           seen_is = working.seen_is;
           offered_is = working.offered_is;
         },
@@ -178,10 +182,10 @@ module _ {S F : Type 0} (owner : S → List ℕ → ℕ → ℕ) (values : List 
   pub received_one : (w : WorkerOf S F) (p : OwnerOf S) (misfits : List Packet) (ins : List (In F)) (from : ℕ) (m : Message) → misfits ≡ w.misfits → IsKept owner values w
       → fits (space_of owner w.owner) w.owner.worker m ≡ true
       → ((bound : Distance) → under p bound ≡ took (space_of owner w.owner) (under w.owner bound) m) → p.space ≡ w.owner.space
-      → p.worker ≡ w.owner.worker → length ins ≡ length w.ins
+      → p.worker ≡ w.owner.worker → p.expansions ≡ w.owner.expansions → length ins ≡ length w.ins
       → ((v : ℕ) → received_from (values_in values w) ins v ≡ put (received_from (values_in values w) w.ins) from (received_from (values_in values w) w.ins from ++ m ∷ []) v)
       → IsKept owner values (record w { owner = p; misfits = misfits; ins = ins })
-  received_one w p misfits ins from m same_values kept fit taken same_space same_number len received =
+  received_one w p misfits ins from m same_values kept fit taken same_space same_number same_count len received =
       with_misfits owner values (record w { owner = p; ins = ins }) misfits same_values
       (kept_after owner values w (record w { owner = p; ins = ins }) kept refl len boxes (λ log working.
       let space = space_of owner w.owner in
@@ -199,7 +203,9 @@ module _ {S F : Type 0} (owner : S → List ℕ → ℕ → ℕ) (values : List 
               (sym boxes)
               (subst (λ n. IsWorker space n next (sent_to (values_in values w) w.outs) (received_from (values_in values w) ins) [] w.misfits) (sym same_number)
               (subst (λ (f : ℕ → List Message). IsWorker space me next (sent_to (values_in values w) w.outs) f [] w.misfits) (λ j v. sym (received v) j) kept_it)));
-          owner_is = ap (λ (l : Log). l.owner) does ∙ (ap (λ (o : machine.Owner). took space o m) working.owner_is ∙ sym (taken w.bound));
+          log_is = log_after log next w.owner p w.bound w.bound working.log_is
+              (ap (λ (l : Log). l.owner) does ∙ (ap (λ (o : machine.Owner). took space o m) working.log_is.owner ∙ sym (taken w.bound)))
+              (ap (λ (l : Log). l.expansions) does) same_space same_count;
           seen_is = ap (λ (l : Log). l.seen) does ∙ working.seen_is;
           offered_is = ap (λ (l : Log). l.offered) does ∙ working.offered_is;
         },
@@ -225,9 +231,7 @@ module _ {S F : Type 0} (owner : S → List ℕ → ℕ → ℕ) (values : List 
   expanded_one w p posted kept done boxes = kept_after owner values w (record w { owner = p }) kept refl refl boxes (λ log working.
       let space = space_of owner w.owner in
       let me = w.owner.worker in
-      let next = happens space me log (Expand done.index) in
-      let node : slice_get log.owner.nodes done.index ≡ Some done.node =
-      ap (λ (o : machine.Owner). slice_get o.nodes done.index) working.owner_is ∙ at_read w.owner.nodes done.index done.node done.next.there in (
+      let next = happens space me log (Expand done.index) in (
         next,
         record {
           works = subst (λ (s : SpaceOf S). IsWorker (searched owner s (length p.outboxes)) p.worker next (sent_to (values (ranges s.task)) w.outs)
@@ -237,8 +241,7 @@ module _ {S F : Type 0} (owner : S → List ℕ → ℕ → ℕ) (values : List 
               (sym boxes)
               (subst (λ n. IsWorker space n next (sent_to (values_in values w) w.outs) (received_from (values_in values w) w.ins) [] w.misfits) (sym done.worker)
               (acts space me log (sent_to (values_in values w) w.outs) (received_from (values_in values w) w.ins) [] w.misfits (Expand done.index) refl refl working.works)));
-          owner_is = ap (λ n. expanded_at space me log.owner done.index n) node
-              ∙ (ap (λ (o : machine.Owner). expanded_at space me o done.index (Some done.node)) working.owner_is ∙ sym done.after);
+          log_is = log_expanded space log w.owner p w.bound me done.index done.node working.log_is done.next done.allowed done.after done.space done.counted;
           seen_is = working.seen_is;
           offered_is = working.offered_is;
         },
@@ -254,10 +257,10 @@ module _ {S F : Type 0} (owner : S → List ℕ → ℕ → ℕ) (values : List 
   -- ---- the beginning
   pub begun : (space : SpaceOf S) (number n : ℕ) (outs : List (Out F)) (ins : List (In F)) (o : OwnerOf S)
       → under o Infinite ≡ start_owner (searched owner space n) (owner space.spread space.task.initial n == number) → o.space ≡ space
-      → o.worker ≡ number → length o.outboxes ≡ n → length outs ≡ n → ((v : ℕ) → sent_to (values (ranges space.task)) outs v ≡ []) → length ins ≡ n
+      → o.worker ≡ number → o.expansions ≡ 0 → length o.outboxes ≡ n → length outs ≡ n → ((v : ℕ) → sent_to (values (ranges space.task)) outs v ≡ []) → length ins ≡ n
       → ((v : ℕ) → received_from (values (ranges space.task)) ins v ≡ [])
       → IsKept owner values (record { owner = o; outs = outs; ins = ins; bound = Infinite; seen = Infinite; offered = Infinite; misfits = []; resting = false; uncounted = 0; taken = 0 })
-  begun space number n outs ins o started same_space same_number boxes out_len none_sent in_len none_received = record {
+  begun space number n outs ins o started same_space same_number no_expansions boxes out_len none_sent in_len none_received = record {
     outs = out_len ∙ sym boxes;
     ins = in_len ∙ sym boxes;
     working = ∣ (
@@ -274,7 +277,7 @@ module _ {S F : Type 0} (owner : S → List ℕ → ℕ → ℕ) (values : List 
             (λ j v. sym (none_received v) j)
             (subst (λ (f : ℕ → List Message). IsWorker (searched owner space n) number (start (searched owner space n) number) f (λ v. []) [] [])
             (λ j v. sym (none_sent v) j) (begins (searched owner space n) number)))));
-        owner_is = sym started;
+        log_is = first_log (start (searched owner space n) number) o Infinite (sym started) refl no_expansions;
         seen_is = refl;
         offered_is = refl;
       },

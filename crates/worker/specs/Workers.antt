@@ -7,7 +7,7 @@ use Rattle.owner_theory.specs.Owners.{Log, Message, Packet, list_at}
 use Rattle.owner_theory.specs.Threads.{IsWorker}
 use Rattle.closed.specs.Tables.{message_of}
 use Rattle.owner.specs.Spaces.{SpaceOf}
-use Rattle.owner.specs.Owned.{OwnerOf, space_of, under}
+use Rattle.owner.specs.Owned.{OwnerOf, IsLogOf, space_of}
 use Rattle.extract.specs.Views.{packet_of}
 use Rattle.extract.specs.declared.packet.Packet.{Packet as PacketOf}
 use Rattle.links.specs.declared.ends.Out.{Out}
@@ -56,7 +56,7 @@ known_in ins = sum_by (λ i. length (known i)) ins
 -- the log records a run of the owner, what went over the links and what was seen and offered
 pub record IsWorking {S F : Type 0} (owner : S → List ℕ → ℕ → ℕ) (values : List ℕ → F → List ℕ) (w : WorkerOf S F) (log : Log) : Type 0 where
   pub works : IsWorker (space_of owner w.owner) w.owner.worker log (sent_to (values_in values w) w.outs) (received_from (values_in values w) w.ins) [] w.misfits
-  pub owner_is : log.owner ≡ under w.owner w.bound
+  pub log_is : IsLogOf log w.owner w.bound
   pub seen_is : log.seen ≡ w.seen
   pub offered_is : log.offered ≡ w.offered
 

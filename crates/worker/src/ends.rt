@@ -29,7 +29,8 @@ pub(crate) fn push<F: StateForm + Drop>(outs: &mut Vec<Out<F>>, to: usize, messa
     requires small { HasSmallRank message }
     requires room { (o : OutOf F) → slice_get outs.old.items to ≡ Some o → 0 < room o }
     ensures same { AreSameOuts outs.old.items outs.new.items }
-    ensures sent { (values : F → List ℕ) (v : ℕ) → sent_to values outs.new.items v ≡ put (sent_to values outs.old.items) to (sent_to values outs.old.items to ++ message_of values message ∷ []) v }
+    ensures sent { (values : F → List ℕ) (v : ℕ) → sent_to values outs.new.items v
+        ≡ put (sent_to values outs.old.items) to (sent_to values outs.old.items to ++ message_of values message ∷ []) v }
 {
     let pushed = outs[to].push(message);
     let _ = pushed; // there is room
@@ -39,7 +40,8 @@ pub(crate) fn push<F: StateForm + Drop>(outs: &mut Vec<Out<F>>, to: usize, messa
 pub(crate) fn pop<F: StateForm + Drop>(ins: &mut Vec<In<F>>, from: usize) -> Option<Message<F>>
     requires { from < length ins.old.items }
     ensures same { AreSameIns ins.old.items ins.new.items }
-    ensures some { IfSome result (λ m. (values : F → List ℕ) (v : ℕ) → received_from values ins.new.items v ≡ put (received_from values ins.old.items) from (received_from values ins.old.items from ++ message_of values m ∷ []) v) }
+    ensures some { IfSome result (λ m. (values : F → List ℕ) (v : ℕ) → received_from values ins.new.items v
+        ≡ put (received_from values ins.old.items) from (received_from values ins.old.items from ++ message_of values m ∷ []) v) }
     ensures last { IfSome result (λ m. (i : InOf F) → slice_get ins.new.items from ≡ Some i → WasTakenLast i m) }
     ensures small { IfSome result HasSmallRank }
     ensures none { IfNone result ((values : F → List ℕ) (v : ℕ) → received_from values ins.new.items v ≡ received_from values ins.old.items v) }
@@ -63,7 +65,8 @@ pub(crate) fn give_back<F: StateForm + Drop>(ins: &mut Vec<In<F>>, from: usize, 
     requires last { (i : InOf F) → slice_get ins.old.items from ≡ Some i → WasTakenLast i message }
     requires small { HasSmallRank message }
     ensures same { AreSameIns ins.old.items ins.new.items }
-    ensures taken { (values : F → List ℕ) (v : ℕ) → received_from values ins.old.items v ≡ put (received_from values ins.new.items) from (received_from values ins.new.items from ++ message_of values message ∷ []) v }
+    ensures taken { (values : F → List ℕ) (v : ℕ) → received_from values ins.old.items v
+        ≡ put (received_from values ins.new.items) from (received_from values ins.new.items from ++ message_of values message ∷ []) v }
     ensures known { (values : F → List ℕ) → known_from values ins.new.items from ≢ [] }
 {
     ins[from].give_back(message);

@@ -13,7 +13,7 @@ loop-worker-preserved g c =
     let was = c.loop-worker.invariant.0 in
     let is = ap length c.in_ok-push.ensures.items in
     let one = subst (λ (k : ℕ). IsFirstOwner g.S.Spread.owner c.args.space.now c.args.count k o) (sym was)
-    (record { started = c.in_ok-start.ensures.started; space = c.in_ok-start.ensures.space; worker = c.in_ok-start.ensures.worker }) in (
+    (record { started = c.in_ok-start.ensures.started; space = c.in_ok-start.ensures.space; worker = c.in_ok-start.ensures.worker; expansions = c.in_ok-start.ensures.expansions }) in (
       omega (arith, long, was, is),
       λ v p at. first_more g.S.Spread.owner c.args.space.now c.args.count os o c.loop-worker.invariant.1 one v p (subst (λ (xs : List (OwnerOf g.row.S.Denot)). At xs v p) c.in_ok-push.ensures.items at),
     )

@@ -89,6 +89,7 @@ invariant_of-self-in-Ok g c =
           (c.self.invariant.spaces c.args.worker o at) c.in-Ok.ensures.taken;
       space = c.take.ensures.space;
       worker = c.take.ensures.worker;
+      expansions = c.take.ensures.expansions;
     } in
     let fewer = queues_without values c.self.inside.underway.items c.args.worker q room c.index_mut.ensures.value c.args.number c.remove.new.self
     c.in-Some.ensures.items in
@@ -120,6 +121,7 @@ returns-in-Ok g c =
           (c.self.invariant.spaces c.args.worker o at) c.in-Ok.ensures.taken;
       space = c.take.ensures.space;
       worker = c.take.ensures.worker;
+      expansions = c.take.ensures.expansions;
     } in
     let fewer = queues_without values c.self.inside.underway.items c.args.worker q room c.index_mut.ensures.value c.args.number c.remove.new.self
     c.in-Some.ensures.items in

@@ -3,8 +3,12 @@ use Rattle.std.specs.Ordering.{is_ge}
 use Rattle.std.proofs.lemmas.Bool.{not-true, not-false}
 use Rattle.cost.specs.Distances.{distance_cmp}
 use Rattle.netcore.proofs.Places.{at_here, at_some}
-use Rattle.netcore.proofs.Bounding.{offer_none, offer_done, offer_kept, not_less}
+use Rattle.netcore.proofs.Bounding.{offer_past, offer_none, offer_done, offer_kept, not_less}
 use Rattle.netcore.proofs.world.World.offer.Goals as goal
+
+pub returns-then-worker-len : goal.returns-then-worker-len
+returns-then-worker-len g c =
+    rw (← c.self.view_is) (offer_past g.S.Spread.owner _ c.args.worker (omega (arith, c.len.ensures, c.if-worker-len.true)))
 
 pub returns-then-ge : goal.returns-then-ge
 returns-then-ge g c =

@@ -1,6 +1,6 @@
-use Rattle.std.proofs.Common.{length, sym, ap, ◌∙◌, subst, cond}
+use Rattle.std.proofs.Common.{◌≡◌, length, sym, ap, ◌∙◌, subst, cond}
 use Rattle.cost.specs.Distances.{Finite, lesser}
-use Rattle.fdr.specs.Tasks.{FiniteDomainTask, is_goal_state}
+use Rattle.fdr.specs.Tasks.{FiniteDomainTask, ranges, is_goal_state}
 use Rattle.owner_theory.specs.Owners.{took}
 use Rattle.closed.specs.Tables.{padded}
 use Rattle.owner_space.specs.Spaces.{SpaceOf}
@@ -9,6 +9,14 @@ use Rattle.owner_reached.specs.Queues.{ReachedOf}
 use Rattle.owner.specs.Held.{IsOwner, message_at}
 use Rattle.owner.proofs.Owning.{boxes_in, taken_kept, taken_is}
 use Rattle.owner.proofs.holdings.Holdings.take.Goals as goal
+
+pub reach-requires-clause-form : goal.reach-requires-clause-form
+reach-requires-clause-form g c =
+    subst (λ (o : OwnerOf g.row.S.Denot). g.F.StateForm.IsForm (ranges o.space.task) c.args.form.now) (sym c.self.view_is) c.requires.form
+
+pub reach-requires-clause-values : goal.reach-requires-clause-values
+reach-requires-clause-values g c =
+    subst (λ (o : OwnerOf g.row.S.Denot). g.F.StateForm.values (ranges o.space.task) c.args.form.now ≡ c.args.state.now) (sym c.self.view_is) c.requires.values
 
 pub invariant_of-self : goal.invariant_of-self
 invariant_of-self g c =
@@ -29,7 +37,7 @@ invariant_of-self-2 g c =
     (boxes_in g.F.StateForm.values c.self.inside.outboxes c.reach.new.self.space) c.best_with-self-inside.result c.args.state.now c.args.rank c.args.parent
     c.self.invariant
     (subst (λ (o : OwnerOf g.row.S.Denot). IsMessageTo (space_of g.S.Spread.owner o) o.worker (message_at c.args.state.now c.args.rank c.args.parent))
-    (sym c.self.view_is) c.requires)
+    (sym c.self.view_is) c.requires.message)
     c.in_ok-reach.ensures.space c.in_ok-reach.ensures.nodes (ap (boxes_in g.F.StateForm.values c.self.inside.outboxes) c.in_ok-reach.ensures.space)
 
 pub returns-clause-taken : goal.returns-clause-taken

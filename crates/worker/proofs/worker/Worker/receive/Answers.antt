@@ -27,7 +27,7 @@ invariant_of-self-then-knows g c =
       counted g.S.Spread.owner g.F.StateForm.values _ _ _ _
           (received_one g.S.Spread.owner g.F.StateForm.values _ o _ c.pop.new.ins.items c.args.from m refl c.self.invariant.2
           (fits_here (space_of g.S.Spread.owner o) o.worker m (c.knows.ensures.state c.if-knows.true) (c.knows.ensures.owner c.if-knows.true))
-          (c.knows.ensures.nothing c.if-knows.true) refl refl c.in-Some.ensures.same.len (c.in-Some.ensures.some _)),
+          (c.knows.ensures.nothing c.if-knows.true) refl refl refl c.in-Some.ensures.same.len (c.in-Some.ensures.some _)),
     )
 
 pub returns-then-knows-clause-received : goal.returns-then-knows-clause-received
@@ -80,7 +80,7 @@ invariant_of-self-in-Ok g c =
           (fits_as_read g.S.Spread.owner c.self.inside.owner c.space.result.now c.len-owners.result c.self.inside.number
           (message_of (g.F.StateForm.values (ranges c.space.result.now.task)) c.in-Some.message) c.space.ensures many
           c.self.invariant.0 (c.is_for.ensures.state c.if-not-is_for.false) (c.is_for.ensures.owner c.if-not-is_for.false)))
-          c.in-Ok.ensures.taken c.in-Ok.ensures.space c.in-Ok.ensures.worker c.in-Some.ensures.same.len
+          c.in-Ok.ensures.taken c.in-Ok.ensures.space c.in-Ok.ensures.worker c.in-Ok.ensures.expansions c.in-Some.ensures.same.len
           (c.in-Some.ensures.some _)),
     )
 

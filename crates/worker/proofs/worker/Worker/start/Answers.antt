@@ -13,6 +13,6 @@ invariant_of-result g c =
       omega (arith, width, c.variable_count.ensures, c.in_ok-vec.ensures.len, c.in_ok-vec.field-0.ok.0),
       rw (c.inf.ensures, c.inf-2.ensures, c.inf-3.ensures)
           (begun g.S.Spread.owner g.F.StateForm.values c.args.space.now c.args.number c.args.workers c.args.outs.items c.args.ins.items c.in_ok-start.field-0
-          c.in_ok-start.ensures.started c.in_ok-start.ensures.space c.in_ok-start.ensures.worker c.in_ok-start.ensures.owners
+          c.in_ok-start.ensures.started c.in_ok-start.ensures.space c.in_ok-start.ensures.worker c.in_ok-start.ensures.expansions c.in_ok-start.ensures.owners
           c.requires.outs.0 c.requires.outs.1 c.requires.ins.0 c.requires.ins.1),
     )
