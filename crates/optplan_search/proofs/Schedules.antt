@@ -16,7 +16,7 @@ use Rattle.owner_theory.specs.Worlds.{world_start, IsQuiet}
 use Rattle.owner.specs.Spaces.{SpaceOf, searched}
 use Rattle.owner.specs.declared.fault.OwnerFault.TheVariants.{OutOfMemory, TotalTooLarge, LimitReached}
 use Rattle.netcore.specs.declared.step.WorldStep.{WorldStep}
-use Rattle.netcore.specs.Worlds.{WorldOf, Shows, Steps, IsAfter, IsWorldAfter, IsStepRefusal, space_in, world_after_run}
+use Rattle.netcore.specs.Worlds.{WorldOf, IsFilled, Shows, Steps, IsAfter, IsWorldAfter, IsStepRefusal, space_in, world_after_run}
 use Rattle.netcore.proofs.Places.{at_below, at_some, at_read}
 use Rattle.netcore.proofs.Starting.{at_snoc}
 use Rattle.netcore.proofs.Shown.{after_step}
@@ -86,6 +86,7 @@ module _ {S : Type 0} (owner : S → List ℕ → ℕ → ℕ) (over : SpaceOf S
 
   -- a step that is drawn in a world in which something is left to do
   pub record IsTurn (taken : ℕ) (old : WorldOf S) (step : WorldStep) : Type 0 where
+    pub filled : IsFilled old
     pub left : HasWork owner old
     pub drawn : Draws owner old (word_of seed taken) step
 
@@ -109,6 +110,7 @@ module _ {S : Type 0} (owner : S → List ℕ → ℕ → ℕ) (over : SpaceOf S
   is_next : (taken : ℕ) (step : WorldStep) (old : WorldOf S) (so_far : IsUnderWay taken old) → IsTurn taken old step
       → IsNextDrawn owner over n seed so_far.asked step old
   is_next taken step old so_far turn = record {
+    filled = turn.filled;
     after = so_far.world;
     left = turn.left;
     drawn = subst (λ (k : ℕ). Draws owner old (word_of seed k) step) (sym so_far.long) turn.drawn;
@@ -150,6 +152,7 @@ module _ {S : Type 0} (owner : S → List ℕ → ℕ → ℕ) (over : SpaceOf S
         asked = so_far.asked;
         drawn = so_far.drawn;
         few = omega (arith, long, le);
+        filled = turn.filled;
         world = so_far.world;
         ends = inr (inl (step, is_next taken step old so_far turn, (v, o, b, is, at, seen, own, why, refl)));
       })
@@ -174,15 +177,16 @@ module _ {S : Type 0} (owner : S → List ℕ → ℕ → ℕ) (over : SpaceOf S
   )
 
   -- nothing is left to do
-  pub ended : (taken most : ℕ) (w : WorldOf S) → IsUnderWay taken w → taken ≤ most
+  pub ended : (taken most : ℕ) (w : WorldOf S) → IsUnderWay taken w → IsFilled w → taken ≤ most
       → ((asked : List WorldStep) (after : IsAfter owner (space_in owner w) asked w) → IsQuiet (space_in owner w) (world_after_run (space_in owner w) after.steps))
       → IsSimulated owner over n seed most w
-  ended taken most w so_far le quiet =
+  ended taken most w so_far filled le quiet =
       let long = so_far.long in
       record {
         asked = so_far.asked;
         drawn = so_far.drawn;
         few = omega (arith, long, le);
+        filled = filled;
         world = so_far.world;
         ends = inl (
           so_far.world.after,
@@ -192,13 +196,14 @@ module _ {S : Type 0} (owner : S → List ℕ → ℕ → ℕ) (over : SpaceOf S
       }
 
   -- there were as many steps as may be
-  pub used_up : (taken most : ℕ) (w : WorldOf S) → IsUnderWay taken w → taken ≡ most → IsSimulated owner over n seed most w
-  used_up taken most w so_far all =
+  pub used_up : (taken most : ℕ) (w : WorldOf S) → IsUnderWay taken w → IsFilled w → taken ≡ most → IsSimulated owner over n seed most w
+  used_up taken most w so_far filled all =
       let long = so_far.long in
       record {
         asked = so_far.asked;
         drawn = so_far.drawn;
         few = omega (arith, long, all);
+        filled = filled;
         world = so_far.world;
         ends = inr (inr (long ∙ all));
       }

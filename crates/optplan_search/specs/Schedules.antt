@@ -10,7 +10,7 @@ use Rattle.owner.specs.Spaces.{SpaceOf, searched}
 use Rattle.owner.specs.declared.fault.OwnerFault.{OwnerFault}
 use Rattle.netcore.specs.declared.step.WorldStep.{WorldStep}
 use Rattle.owner.specs.declared.fault.OwnerFault.TheVariants.{LimitReached}
-use Rattle.netcore.specs.Worlds.{WorldOf, Shows, IsAfter, IsWorldAfter, IsStepRefusal, IsRunRefusal, space_in, world_after_run}
+use Rattle.netcore.specs.Worlds.{WorldOf, IsFilled, Shows, IsAfter, IsWorldAfter, IsStepRefusal, IsRunRefusal, space_in, world_after_run}
 use Rattle.netcore.specs.Possible.{possible_steps}
 
 -- ---- outputs of the generator
@@ -44,6 +44,7 @@ HasWork owner w = (shown : machine.World) → Shows owner w shown → 0 < machin
 -- from the seed selects the step
 pub record IsNextDrawn {S : Type 0} (owner : S → List ℕ → ℕ → ℕ) (space : SpaceOf S) (n seed : ℕ) (before : List WorldStep) (step : WorldStep)
     (world : WorldOf S) : Type 0 where
+  pub filled : IsFilled world
   pub after : IsWorldAfter owner space n before world
   pub left : HasWork owner world
   pub drawn : Draws owner world (word_of seed (length before)) step
@@ -71,6 +72,7 @@ pub record IsSimulated {S : Type 0} (owner : S → List ℕ → ℕ → ℕ) (sp
   pub asked : List WorldStep
   pub drawn : AreDrawn owner space n seed asked
   pub few : length asked ≤ most
+  pub filled : IsFilled w
   pub world : IsWorldAfter owner space n asked w
   pub ends : IsQuietAfter owner space n asked w ⊎ (IsLimitedNext owner space n seed asked w ⊎ (length asked ≡ most))
 

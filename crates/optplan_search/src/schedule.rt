@@ -50,6 +50,7 @@ pub fn simulated<'a, S: Spread + Drop, O: Observer, F: StateForm + Drop>(
     let mut generator = Xoshiro256PlusPlus::seed_from_u64(seed);
     let mut tally = Tally::new();
     for _ in 0..steps {
+        world.recall(); // each owner has a queue, a bound and a flag
         if world.count() == 0 {
             return Ok(world);
         }
@@ -61,5 +62,6 @@ pub fn simulated<'a, S: Spread + Drop, O: Observer, F: StateForm + Drop>(
             Err(OwnerFault::OutOfMemory) => return Err(OwnerFault::OutOfMemory),
         }
     }
+    world.recall(); // each owner has a queue, a bound and a flag
     Ok(world)
 }

@@ -199,7 +199,8 @@ fn found_on<'a, R: Threads + Sync, C: Course>(
 /// its limit allows.
 ///
 /// Fails with `TotalTooLarge` if a path would have a cost or a number of operators above 2^62, or if allocation fails.
-/// The contract states neither that these steps were done nor why the search was stopped or fails with `TotalTooLarge`.
+/// The contract states all this of some world after such steps, in a space whose tables partition the costs, not of
+/// this one.
 pub fn found_after<'a, R: Threads + Sync>(
     rt: &R,
     alloc: Global,
@@ -220,7 +221,8 @@ pub fn found_after<'a, R: Threads + Sync>(
 /// an owner for more nodes than its limit allows.
 ///
 /// Fails with `TotalTooLarge` if a path would have a cost or a number of operators above 2^62, or if allocation fails.
-/// The contract states neither that these steps were done nor why the search was stopped or fails with `TotalTooLarge`.
+/// The contract states all this of some world after such steps, in a space whose tables partition the costs, not of
+/// this one.
 pub fn found_by_seed<'a, R: Threads + Sync, O: Observer>(
     rt: &R,
     alloc: Global,

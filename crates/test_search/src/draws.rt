@@ -15,7 +15,7 @@ use owner::{Space, Ties};
 use packed::{Bits, StateForm};
 use packed_spread::{ByValue, Spread};
 use rand_core::{Rng, SeedableRng};
-use rand_xoshiro::SplitMix64;
+use rand_xoshiro::{SplitMix64, Xoshiro256PlusPlus};
 use scp::make_columns;
 use std::alloc::{AllocError, Global};
 use std::process::Abort;
@@ -77,10 +77,10 @@ fn do_any_steps<S: Spread + Drop, F: StateForm + Drop>(
     Ok(())
 }
 
-/// Performs random steps that would change something, one by one, until no work is left.
+/// Performs random steps that would change something, chosen as in a simulation, until no work is left.
 fn do_the_rest<S: Spread + Drop, F: StateForm + Drop>(
     world: &mut World<'_, S, F>,
-    generator: &mut SplitMix64,
+    generator: &mut Xoshiro256PlusPlus,
 ) -> Result<(), Fail> {
     for _ in 0..1_000_000 {
         let possible = world.possible_count();
@@ -128,7 +128,7 @@ fn settles<'a, R: AllocGlobal + Threads + Sync + Abort, S: Spread + Drop>(
     let mut generator = SplitMix64::seed_from_u64(seed);
     let mut world: World<'a, S, Bits<1>> = World::start(rt.alloc(), space, OWNERS)?;
     do_any_steps(&mut world, &mut generator)?;
-    do_the_rest(&mut world, &mut generator)?;
+    do_the_rest(&mut world, &mut Xoshiro256PlusPlus::seed_from_u64(seed))?;
     assert_eq!(rt; world.count(), 0);
     assert_eq!(rt; world.answer(rt.alloc())?, Some(SearchAnswer::Solved(cost)));
     proves(rt, task, &world.joined(), cost)

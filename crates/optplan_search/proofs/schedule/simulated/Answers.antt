@@ -15,12 +15,13 @@ loop-init g c =
 
 pub returns-then-count-eq0-clause-run : goal.returns-then-count-eq0-clause-run
 returns-then-count-eq0-clause-run g c =
-    ended g.S.Spread.owner c.args.space.now c.args.owners c.args.seed c.loop.counter c.args.steps c.loop.world c.loop.invariant.under_way c.loop.auto.counter-end
+    ended g.S.Spread.owner c.args.space.now c.args.owners c.args.seed c.loop.counter c.args.steps c.loop.world c.loop.invariant.under_way c.recall.ensures.filled c.loop.auto.counter-end
     (c.count.ensures.quiet c.if-count-eq0.true)
 
 pub returns-in-Err-LimitReached-clause-run : goal.returns-in-Err-LimitReached-clause-run
 returns-in-Err-LimitReached-clause-run g c =
     let turn : IsTurn g.S.Spread.owner c.args.space.now c.args.owners c.args.seed c.loop.counter c.loop.world c.drawn-step.result = record {
+      filled = c.recall.ensures.filled;
       left = left_of g.S.Spread.owner (2 ^ 128 - 1) c.count.result c.loop.world c.count.ensures.count c.if-count-eq0.false;
       drawn = c.drawn-step.ensures.step c.args.seed c.loop.counter c.loop.invariant.words;
     } in
@@ -33,6 +34,7 @@ returns-in-Err-TotalTooLarge-clause-refused g c =
     too_large g.S.Spread.owner c.args.space.now c.args.owners c.args.seed c.loop.counter c.drawn-step.result c.loop.world c.step.new.self
     c.loop.invariant.under_way
     (record {
+      filled = c.recall.ensures.filled;
       left = left_of g.S.Spread.owner (2 ^ 128 - 1) c.count.result c.loop.world c.count.ensures.count c.if-count-eq0.false;
       drawn = c.drawn-step.ensures.step c.args.seed c.loop.counter c.loop.invariant.words;
     })
@@ -43,6 +45,7 @@ loop-preserved g c = record {
   under_way =
       one_more g.S.Spread.owner c.args.space.now c.args.owners c.args.seed c.loop.counter c.drawn-step.result c.loop.world c.step.new.self c.loop.invariant.under_way
       (record {
+        filled = c.recall.ensures.filled;
         left = left_of g.S.Spread.owner (2 ^ 128 - 1) c.count.result c.loop.world c.count.ensures.count c.if-count-eq0.false;
         drawn = c.drawn-step.ensures.step c.args.seed c.loop.counter c.loop.invariant.words;
       }) c.in-Ok.ensures.stepped c.step.ensures.space c.step.ensures.owners;
@@ -53,4 +56,4 @@ pub returns-clause-run : goal.returns-clause-run
 returns-clause-run g c =
     let at_end = c.loop-test.false in
     let most = c.loop.auto.counter-end in
-    used_up g.S.Spread.owner c.args.space.now c.args.owners c.args.seed c.loop.counter c.args.steps c.loop.world c.loop.invariant.under_way (omega (arith, at_end, most))
+    used_up g.S.Spread.owner c.args.space.now c.args.owners c.args.seed c.loop.counter c.args.steps c.loop.world c.loop.invariant.under_way c.recall-2.ensures.filled (omega (arith, at_end, most))
