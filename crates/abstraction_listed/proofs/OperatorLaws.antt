@@ -1,7 +1,6 @@
 -- The operators that affect an abstraction, one operator after another.
 use Rattle.std.specs.Prelude.{◌↔◌, Contains, slice_index}
 use Rattle.std.specs.List.{filter, range_with_len, slice_range}
-use Rattle.std.specs.List.Sorted.{IsStrictlyIncreasing}
 use Rattle.std.proofs.Common.{◌≡◌, ℕ, ◌+◌, ◌-◌, ◌<◌, ◌≤◌, Bool, true, false, List, [], ◌∷◌, ◌++◌, length, take, drop, drop-cons, cond, Some, sym, ap, ◌∙◌, subst, ⊎_elim, arith}
 use Rattle.std.proofs.lemmas.List.{append-nil, map-id}
 use Rattle.std.proofs.lemmas.List.Elements.{Contains-push, Contains-push_cases}
@@ -38,9 +37,6 @@ one_element : (xs : List ℕ) (c : ℕ) → c < length xs → slice_range xs c (
 one_element xs c l =
     let count : c + 1 - c ≡ 1 = omega arith in
     ap (λ (n : ℕ). take n (drop c xs)) count ∙ ap (take 1) (drop-cons xs c 0 l)
-
-pub one_increases : (xs : List ℕ) (c : ℕ) → c < length xs → IsStrictlyIncreasing (slice_range xs c (c + 1))
-one_increases xs c l k m = let long : length (slice_range xs c (c + 1)) ≡ 1 = ap length (one_element xs c l) in absurd (omega arith)
 
 pub one_operator : (task : FiniteDomainTask) (a : Abstraction) (c : ℕ) → c < length (affecting task a) → (o : ℕ) →
     Contains (slice_range (affecting task a) c (c + 1)) o ↔ ((single_classes task a).class o ≡ Some c)

@@ -1,19 +1,18 @@
-use Rattle.std.proofs.Common.{◌≡◌, ◌≤◌, ℕ, List, length, ap, subst, arith}
+use Rattle.std.proofs.Common.{◌≡◌, ℕ, List, length, ap, subst, arith}
 use Rattle.keyed_lists.specs.declared.lists.Keyed.{Keyed}
 use Rattle.abstraction_groups.specs.declared.backward.Transition.{Transition}
-use Rattle.abstraction_listed.specs.Affecting.{affecting}
 use Rattle.abstraction_listed.proofs.OperatorLaws.{affecting_few}
 use Rattle.abstraction_listed.proofs.EntryLaws.{AreMade, none_made, operator_made, all_made}
 use Rattle.abstraction_listed.proofs.entries.entries_of.Goals as goal
 
-pub overflow_cast : goal.overflow_cast
-overflow_cast g c =
+pub overflow_cast-class : goal.overflow_cast-class
+overflow_cast-class g c =
     let task = g.A.Abstraction.task c.args.abstraction.now in
     let a = g.A.Abstraction.abstraction c.args.abstraction.now in
     omega (arith, ap length c.requires.operators, affecting_few task a, c.requires.few, c.loop-class-test.true)
 
 pub loop-class-init : goal.loop-class-init
-loop-class-init g c = none_made (g.A.Abstraction.abstraction c.args.abstraction.now) c.args.operators.now
+loop-class-init g c = rw c.new-entries.ensures.items (none_made (g.A.Abstraction.abstraction c.args.abstraction.now) c.args.operators.now)
 
 pub loop-class-preserved : goal.loop-class-preserved
 loop-class-preserved g c =

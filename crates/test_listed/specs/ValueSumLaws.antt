@@ -1,5 +1,5 @@
 -- The sum of the values of two variables is an abstraction of the task.
-use Rattle.std.specs.Prelude.{◌&&◌, ◌||◌, not, nat_lt, IfSome, option_and_then, slice_get, slice_index, slice_set, ◌^◌}
+use Rattle.std.specs.Prelude.{◌&&◌, ◌||◌, not, IfSome, option_and_then, slice_get, slice_index, slice_set, ◌^◌}
 use Rattle.std.specs.List.{list_all}
 use Rattle.std.specs.Option.{option_map_or}
 use Rattle.std.proofs.Common.{◌≡◌, ℕ, ◌+◌, ◌-◌, ◌<◌, ◌≤◌, Bool, true, false, List, [], ◌∷◌, length, cond, eqb, eq-eqb, Option, Some, None, refl, sym, ap, ◌∙◌, subst, zero, suc, arith}
@@ -8,7 +8,7 @@ use Rattle.std.proofs.lemmas.Bool.Decides.{nat_tests}
 use Rattle.std.proofs.lemmas.List.{length-set, get_or-set_same, get_or-set_other}
 use Rattle.std.proofs.lemmas.Option.{slice_get_past}
 use Rattle.fdr.specs.declared.fact.Fact.{Fact}
-use Rattle.fdr.specs.Tasks.{FiniteDomainTask, Operator, ranges, IsTask, IsState, holds, applies, successor, with_values, names_variable, step, is_goal_state}
+use Rattle.fdr.specs.Tasks.{FiniteDomainTask, Operator, ranges, IsState, holds, applies, successor, with_values, names_variable, is_goal_state}
 use Rattle.abstraction.specs.Abstractions.{IsAbstractionOf}
 use Rattle.abstraction.specs.Projections.{value_after}
 use Rattle.abstraction.specs.Steps.{step_keeps_state}

@@ -1,4 +1,4 @@
-use Rattle.std.proofs.Common.{◌≡◌, ◌∙◌, ℕ, List, length, sym, ap, subst, arith}
+use Rattle.std.proofs.Common.{◌∙◌, ℕ, sym, ap, subst}
 use Rattle.keyed_lists.specs.Lists.{lists_by}
 use Rattle.abstraction_groups.specs.Lists.{AreLists}
 use Rattle.abstraction_groups.proofs.ListLaws.{lists_told}
