@@ -272,8 +272,10 @@ pub(crate) fn own_file<'a>(
     other: Option<&str>,
 ) -> Result<Option<&'a str>, RefusedValue<'a>>
     ensures name { IfOk result (λ name. option_map (λ n. n.now) name ≡ first_value (found_of words.now) option.entry.now) }
-    ensures own { IfOk result (λ _. has_taken (λ id. first_value (found_of words.now) id) (option_map (λ o. o.now) other.entry) (first_value (found_of words.now) option.entry.now) ≡ false) }
-    ensures refused { IfErr result (λ _. has_taken (λ id. first_value (found_of words.now) id) (option_map (λ o. o.now) other.entry) (first_value (found_of words.now) option.entry.now) ≡ true) }
+    ensures own { IfOk result (λ _. has_taken (λ id. first_value (found_of words.now) id)
+        (option_map (λ o. o.now) other.entry) (first_value (found_of words.now) option.entry.now) ≡ false) }
+    ensures refused { IfErr result (λ _. has_taken (λ id. first_value (found_of words.now) id)
+        (option_map (λ o. o.now) other.entry) (first_value (found_of words.now) option.entry.now) ≡ true) }
 {
     let Some(name) = words.get_str(option) else {
         return Ok(None);

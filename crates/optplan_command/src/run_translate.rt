@@ -76,7 +76,8 @@ pub(crate) fn reply_text<D: Device>(
     device: &mut D,
     answer: &Result<Vec<u8>, Fault>,
 ) -> Status
-    ensures answered { result ≢ Status.OutOfMemory → result ≢ Status.DeviceFailed → IfOk answer.now (λ text. Adds (D.history device.old) (D.history device.new) (HasPut text.items)) }
+    ensures answered { result ≢ Status.OutOfMemory → result ≢ Status.DeviceFailed →
+        IfOk answer.now (λ text. Adds (D.history device.old) (D.history device.new) (HasPut text.items)) }
     ensures status { result ≢ Status.OutOfMemory → result ≢ Status.DeviceFailed → IfOk answer.now (λ _. result ≡ Status.Done) }
     ensures counted { result ≡ Status.DeviceFailed → IfOk answer.now (λ _. D.failure_count device.old + 1 ≤ D.failure_count device.new) }
     ensures refused { (h : List Event) → D.history device.old ≡ Some h →

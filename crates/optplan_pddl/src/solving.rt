@@ -161,7 +161,8 @@ fn prepared(
 ///
 /// Fails with the first fault of the texts, with `Size` if the task or its translation exceeds a limit, with
 /// `TotalTooLarge` if a path would have a cost or a number of actions above 2^62, or if allocation fails.
-/// The contract states neither that these steps were done nor the causes of `Limit` and `TotalTooLarge`.
+/// The contract states that the answer is that of some world after these steps, or before one that an owner's limit
+/// does not allow, and that a total is too large in such a world. It does not state which tables the search has.
 pub fn solve_steps<R: AllocGlobal + Threads + Sync>(
     rt: &R,
     domain: &[u8],
@@ -178,8 +179,8 @@ pub fn solve_steps<R: AllocGlobal + Threads + Sync>(
 
 /// Returns the answer for the task that the texts spell, after random steps from the seed, at most as many as the
 /// options allow: each is the step whose number is the next output of Xoshiro256++ modulo the number of steps that
-/// would change something. The contract states of the task what that of `solve_steps` does, and not that these steps
-/// were done. Reports progress to the observer.
+/// would change something. The contract states what that of `solve_steps` does, of a world after such steps. Reports
+/// progress to the observer.
 pub fn simulate<R: AllocGlobal + Threads + Sync, O: Observer>(
     rt: &R,
     domain: &[u8],
@@ -203,8 +204,8 @@ pub fn simulate<R: AllocGlobal + Threads + Sync, O: Observer>(
 ///
 /// Fails with the first fault of the texts, with `Size` if the task or its translation exceeds a limit, with
 /// `TotalTooLarge` if a path would have a cost or a number of actions above 2^62, or if allocation fails. The contract
-/// does not state the causes of `Limit` and `TotalTooLarge`. Termination is not guaranteed: an unfair scheduler may
-/// keep every worker from making progress.
+/// states the causes of `Limit` and `TotalTooLarge` of some end of such a search, not of this one. Termination is not
+/// guaranteed: an unfair scheduler may keep every worker from making progress.
 pub fn solve<R: Threads + Wait + Clock + Sync + AllocGlobal, G: EndingGate + Sync>(
     rt: &R,
     domain: &[u8],

@@ -115,9 +115,11 @@ pub fn reply<D: Device>(
     device: &mut D,
     answer: &Result<(String, Status), Fault>,
 ) -> Status
-    ensures answered { result ≢ Status.OutOfMemory → result ≢ Status.DeviceFailed → IfOk answer.now (λ r. Adds (D.history device.old) (D.history device.new) (HasPut (string_bytes r.0))) }
+    ensures answered { result ≢ Status.OutOfMemory → result ≢ Status.DeviceFailed →
+        IfOk answer.now (λ r. Adds (D.history device.old) (D.history device.new) (HasPut (string_bytes r.0))) }
     ensures status { result ≢ Status.OutOfMemory → result ≢ Status.DeviceFailed → IfOk answer.now (λ r. result ≡ r.1) }
-    ensures counted { result ≡ Status.DeviceFailed → IfOk answer.now (λ r. r.1 ≢ Status.DeviceFailed → D.failure_count device.old + 1 ≤ D.failure_count device.new) }
+    ensures counted { result ≡ Status.DeviceFailed →
+        IfOk answer.now (λ r. r.1 ≢ Status.DeviceFailed → D.failure_count device.old + 1 ≤ D.failure_count device.new) }
     ensures refused { (h : List Event) → D.history device.old ≡ Some h →
         IfErr answer.now (λ e. (later : List Event) × (D.history device.new ≡ Some (h ++ later)) × IsQuiet later) }
     ensures refusal { result ≢ Status.OutOfMemory → IfErr answer.now (λ e. result ≡ fault_status e) }

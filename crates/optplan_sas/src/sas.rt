@@ -99,8 +99,9 @@ fn after_steps<R: AllocGlobal + Threads + Sync>(
 /// 2^30 bytes. Stops before the first step that asks an owner for more nodes than its limit allows.
 ///
 /// Fails with the first fault of the text, with `TotalTooLarge` if a path would have a cost or a number of operators
-/// above 2^62, or if allocation fails. The contract states neither that these steps were done nor the causes of `Limit`
-/// and `TotalTooLarge`.
+/// above 2^62, or if allocation fails. The contract states that the answer is that of some world after these steps, or
+/// before one that an owner's limit does not allow, and that a total is too large in such a world. It does not state
+/// which tables the search has.
 pub fn solve_sas_steps<R: AllocGlobal + Threads + Sync>(
     rt: &R,
     sas: &[u8],
@@ -133,8 +134,8 @@ pub fn simulate_task<R: AllocGlobal + Threads + Sync, O: Observer>(
 
 /// Returns the answer for the task that the text spells, after random steps from the seed, at most as many as the
 /// options allow: each is the step whose number is the next output of Xoshiro256++ modulo the number of steps that
-/// would change something. The contract states of the task what that of `solve_sas_steps` does, and not that these
-/// steps were done. Reports progress to the observer.
+/// would change something. The contract states what that of `solve_sas_steps` does, of a world after such steps.
+/// Reports progress to the observer.
 pub fn simulate_sas<R: AllocGlobal + Threads + Sync, O: Observer>(
     rt: &R,
     sas: &[u8],
@@ -173,8 +174,9 @@ pub fn solve_task<R: Threads + Wait + Clock + Sync + AllocGlobal, G: EndingGate 
 /// stages, up to four searches follow one another, and `Limit` has the best of what all of them know.
 ///
 /// Fails with the first fault of the text, with `TotalTooLarge` if a path would have a cost or a number of operators
-/// above 2^62, or if allocation fails. The contract does not state the causes of `Limit` and `TotalTooLarge`.
-/// Termination is not guaranteed: an unfair scheduler may keep every worker from making progress.
+/// above 2^62, or if allocation fails. The contract states the causes of `Limit` and `TotalTooLarge` of some end of
+/// such a search, not of this one. Termination is not guaranteed: an unfair scheduler may keep every worker from making
+/// progress.
 pub fn solve_sas<R: Threads + Wait + Clock + Sync + AllocGlobal, G: EndingGate + Sync>(
     rt: &R,
     sas: &[u8],

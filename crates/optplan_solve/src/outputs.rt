@@ -252,7 +252,8 @@ fn put_answer<D: Device, P: Drop>(
     answer: &Answer<WrittenPlan<P>>,
     settings: &Settings<'_>,
 ) -> Status
-    ensures told { (h : List Event) → D.history device.old ≡ Some h → D.failure_count device.new ≡ D.failure_count device.old → result ≢ Status.OutOfMemory → result ≢ Status.DeviceFailed →
+    ensures told { (h : List Event) → D.history device.old ≡ Some h → D.failure_count device.new
+        ≡ D.failure_count device.old → result ≢ Status.OutOfMemory → result ≢ Status.DeviceFailed →
         D.history device.new ≡ Some (h ++ outputs (files_of settings.now) answer.now) }
     ensures status { result ≢ Status.OutOfMemory → result ≢ Status.DeviceFailed → result ≡ answer_status answer.now }
     ensures counted { result ≡ Status.DeviceFailed → D.failure_count device.old + 1 ≤ D.failure_count device.new }
@@ -284,7 +285,8 @@ pub(crate) fn reply_answer<D: Device, P: Drop>(
     answer: &Result<Answer<WrittenPlan<P>>, Fault>,
     settings: &Settings<'_>,
 ) -> Status
-    ensures answered { (h : List Event) → D.history device.old ≡ Some h → D.failure_count device.new ≡ D.failure_count device.old → result ≢ Status.OutOfMemory → result ≢ Status.DeviceFailed →
+    ensures answered { (h : List Event) → D.history device.old ≡ Some h → D.failure_count device.new
+        ≡ D.failure_count device.old → result ≢ Status.OutOfMemory → result ≢ Status.DeviceFailed →
         IfOk answer.now (λ a. D.history device.new ≡ Some (h ++ outputs (files_of settings.now) a)) }
     ensures status { result ≢ Status.OutOfMemory → result ≢ Status.DeviceFailed → IfOk answer.now (λ a. result ≡ answer_status a) }
     ensures counted { result ≡ Status.DeviceFailed → IfOk answer.now (λ a. D.failure_count device.old + 1 ≤ D.failure_count device.new) }

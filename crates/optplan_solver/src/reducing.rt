@@ -209,7 +209,7 @@ fn found_with_reduction<R: Threads + Wait + Clock + Sync, G: EndingGate + Sync>(
 ///
 /// Fails with `TotalTooLarge` if a path would have a cost or a number of operators above 2^62, or if allocation fails.
 /// Termination is not guaranteed: an unfair scheduler may keep every worker from making progress. The contract states
-/// neither why the search was stopped or fails with `TotalTooLarge` nor when a stage ends.
+/// of some end of such a search why it was stopped or fails with `TotalTooLarge`, and does not state when a stage ends.
 pub fn found_by_threads<R: Threads + Wait + Clock + Sync, G: EndingGate + Sync>(
     rt: &R,
     alloc: Global,

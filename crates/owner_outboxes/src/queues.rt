@@ -59,7 +59,8 @@ fn push_last<F: StateForm + Drop>(
     message: Message<F>,
 ) -> Result<(), AllocError>
     requires { to < length queues.old.items }
-    ensures posted { OnOk result (boxes_of queues.new.items ≡ slice_set (boxes_of queues.old.items) to (list_at (boxes_of queues.old.items) to ++ message ∷ [])) }
+    ensures posted { OnOk result (boxes_of queues.new.items
+        ≡ slice_set (boxes_of queues.old.items) to (list_at (boxes_of queues.old.items) to ++ message ∷ [])) }
     ensures unchanged { OnErr result (boxes_of queues.new.items ≡ boxes_of queues.old.items) }
 {
     queues[to].push_back(message)?;
