@@ -33,9 +33,10 @@ USAGE = """usage: .ci/run                 the gate: proofs, tests, programs, and
 Each takes the last commit, and records in .ci/refused.txt the crates whose edits were all refused. --edits first proves what these crates
 use, records some crates at a time, and may be ended at any time: the toolchain stores what it has proved and tried."""
 # The seconds after which the gate should have ended; and processor seconds, measured on four busy processors: of all
-# proofs and tests together, and of one edit on average.
+# proofs, of all tests and programs, and of one edit on average.
 SECONDS_OF_A_RUN = 9900
-SECONDS_WITHOUT_EDITS = 19000
+SECONDS_OF_PROOFS = 15000
+SECONDS_OF_TESTS = 4000
 SECONDS_OF_AN_EDIT = 46
 GIB = 2**30
 # The greatest disk space of a run.
@@ -47,6 +48,7 @@ BUILDS = ("optplan", "optplan.by-rattle")
 REFUSED = re.compile(r"rt: must-fail (\w+)/(\S+): refused, as it must be(.*)")
 COUNTS = re.compile(r"(\d+) passed, (\d+) failed.*")
 BY_NAME_ONLY = "only because a proof file names"
+LEFT_OUT = ", left out: "
 
 
 def say(text):
@@ -105,9 +107,21 @@ def missing_edits(repository, record, names, tries_all):
     return [it for it in names if tries_all or not record.holds(repository, it)]
 
 
-def most_edits(processors):
-    """Returns the number of edits for which a run has time, besides the proofs and tests."""
-    return max(0, SECONDS_OF_A_RUN * processors - SECONDS_WITHOUT_EDITS) // SECONDS_OF_AN_EDIT
+def share_to_prove():
+    """Returns the share of the crates, by bytes, of which the toolchain has stored no proof on this machine."""
+    with last_commit() as beside:
+        run = subprocess.run([sys.executable, f"{beside}/.ci/take.py"], stdout=subprocess.PIPE, text=True, check=False)
+        _, found, names = run.stdout.partition("not stored: ")
+        if run.returncode or not found:
+            return 1.0
+        repository = Repository(beside)
+        return repository.size(names.split()) / repository.size(repository.uses)
+
+
+def most_edits(processors, share):
+    """Returns the number of edits for which a run has time, besides the tests and this share of the proofs."""
+    beside = SECONDS_OF_TESTS + SECONDS_OF_PROOFS * share
+    return int(max(0, SECONDS_OF_A_RUN * processors - beside) // SECONDS_OF_AN_EDIT)
 
 
 def count_of_edits(repository, names):
@@ -160,6 +174,8 @@ def run_tests(copy):
             run = subprocess.run([f"{copy}/tests/run.py", program], stdin=subprocess.DEVNULL, stdout=subprocess.PIPE,
                                  stderr=subprocess.STDOUT, text=True, errors="replace", check=False)
         well, bad = counts_of(run.stdout.splitlines())
+        # What the toolchain's gate has built is all that the tests need, so none may be left out.
+        bad += LEFT_OUT in run.stdout
         print(run.stdout, end="")
         say(f"tests on {it}: {well} passed, {bad} failed, in {time.time() - started:.0f} s")
         passed, failed = passed + well, failed + max(bad, int(run.returncode != 0))
@@ -184,7 +200,7 @@ def edits_to_try(repository, record, which):
     tried = missing_edits(repository, record, names, which == "all")
     edits, missing = count_of_edits(repository, names), count_of_edits(repository, tried)
     say(f"of {edits} must-fail edits {edits - missing} are recorded as refused, and {missing}, of {len(tried)} crates, are tried now")
-    most = most_edits(len(os.sched_getaffinity(0)))
+    most = most_edits(len(os.sched_getaffinity(0)), share_to_prove())
     if missing > most and which != "all":
         say(f"there is time for {most} at most: first call .ci/run --edits, which records what is refused")
         return tried, False

@@ -55,6 +55,10 @@ class Repository:
         names = sorted(os.listdir(folder)) if os.path.isdir(folder) else []
         return [f"{folder}/{it}" for it in names if it.endswith(".edit")]
 
+    def size(self, names):
+        """Returns the number of bytes that the prover reads of these crates, leaving out names of no crate."""
+        return sum(os.path.getsize(f"{self.folder(it)}/{path}") for it in names if it in self.uses for path in self.files(it, False))
+
     def with_edits(self):
         return [it for it in self.uses if self.edits(it)]
 

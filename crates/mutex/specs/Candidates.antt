@@ -58,6 +58,10 @@ candidates_of parts = flat_map (λ n. filter is_increasing (lists_of n parts)) (
 abbrev pub candidates : PlanningTask → List Candidate
 candidates task = candidates_of (fluent_parts bound_parts_of task) ++ candidates_of (fluent_parts free_parts_of task)
 
+-- the candidates that are proposed: the first 4,096
+abbrev pub proposed_candidates : PlanningTask → List Candidate
+proposed_candidates task = take 4096 (candidates task)
+
 -- the object that the part binds to the parameter in an atom; 0 for a part that binds none
 abbrev pub bound_object : Part → Atom → ℕ
 bound_object part p = option_map_or (slice_index p.objects) part.position 0
@@ -86,7 +90,7 @@ abbrev pub is_proposal : Indexed → List ℕ → Bool
 is_proposal index places =
     nat_le 2 (length places) && is_usable index.task index.actions (atoms_at index.atoms places)
 
--- the instances of the first 4,096 candidates that are proposals, in order and without repetitions
+-- the instances of the proposed candidates that are proposals, in order and without repetitions
 unfoldable pub proposed_groups : Indexed → List (List ℕ)
 proposed_groups index =
-    fold with_group [] (filter (is_proposal index) (flat_map (instances index) (take 4096 (candidates index.task))))
+    fold with_group [] (filter (is_proposal index) (flat_map (instances index) (proposed_candidates index.task)))

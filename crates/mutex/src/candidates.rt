@@ -2,7 +2,7 @@
 
 ghost use Rattle.std.specs.Prelude.{◌≡◌, ◌≤◌, ◌++◌, [], ◌∷◌, is_some, length, take, IfOk, OnOk};
 ghost use Rattle.std.specs.List.{list_any, flat_map};
-ghost use Rattle.mutex.specs.Candidates.{candidates_of, candidates, count_of_instances};
+ghost use Rattle.mutex.specs.Candidates.{candidates_of, proposed_candidates, count_of_instances};
 ghost use Rattle.mutex.specs.Steps.{is_below, extensions};
 
 use crate::parts::{Part, bound_parts, fluent_flags, free_parts};
@@ -10,12 +10,13 @@ use pddl_task::Task;
 use std::alloc::{AllocError, Global};
 use std::marker::Model;
 
-/// The greatest number of candidates that are tried.
+/// The greatest number of candidates that are proposed.
 pub const MAX_CANDIDATES: usize = 4096;
 
-/// A list of parts.
+/// A candidate for mutex groups: a list of one to three parts of distinct predicates, all of them with a bound argument
+/// or all without. In contracts its value is the list of the parts.
 #[derive(Drop)]
-pub(crate) struct Candidate {
+pub struct Candidate {
     parts: Vec<Part>,
 }
 
@@ -37,7 +38,8 @@ impl Candidate {
         }
     }
 
-    pub(crate) fn parts(&self) -> &[Part]
+    /// Returns the parts, in the order of their predicates.
+    pub fn parts(&self) -> &[Part]
         ensures { result.now ≡ self.now }
     {
         self.parts.as_slice()
@@ -130,9 +132,15 @@ fn candidates_of(alloc: Global, parts: &[Part], room: usize) -> Result<Vec<Candi
     Ok(one)
 }
 
-/// Returns the first candidates of the task, at most `MAX_CANDIDATES`.
-pub(crate) fn candidates(alloc: Global, task: &Task) -> Result<Vec<Candidate>, AllocError>
-    ensures { IfOk result (λ all. all.items ≡ take 4096 (candidates task.now)) }
+/// Returns the candidates for mutex groups that are proposed for the task: the first `MAX_CANDIDATES` of them.
+///
+/// A part is a predicate that occurs in an effect of a schema, either with one argument bound to the parameter, if it
+/// has one or two arguments, or with no bound argument, if it has at most one. So at most one argument is not bound. A
+/// candidate is one to three parts of distinct predicates, all of them with a bound argument or all without. Candidates
+/// with a bound argument are first, then those with fewer parts; otherwise they are in the lexicographic order of their
+/// parts, which are ordered by predicate and then by the position that is bound.
+pub fn propose(alloc: Global, task: &Task) -> Result<Vec<Candidate>, AllocError>
+    ensures { IfOk result (λ all. all.items ≡ proposed_candidates task.now) }
 {
     let fluent = fluent_flags(alloc, task)?;
     let bound = bound_parts(alloc, task, &fluent)?;

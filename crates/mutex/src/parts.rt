@@ -7,11 +7,13 @@ ghost use Rattle.mutex.specs.Candidates.{bound_object, is_fluent, bound_parts_of
 use pddl_task::{GroundAtom, LiftedEffect, Task};
 use std::alloc::{AllocError, Global};
 
-/// A predicate, and the position of its argument that is bound to the parameter, if there is one.
+/// A part of a candidate: a predicate, of which one argument may be bound to the candidate's parameter.
 #[derive(Debug, Clone, Copy)]
-pub(crate) struct Part {
-    pub(crate) predicate: usize,
-    pub(crate) position: Option<usize>,
+pub struct Part {
+    /// The number of the predicate.
+    pub predicate: usize,
+    /// The position of the argument that is bound, counted from 0, or `None` if no argument is bound.
+    pub position: Option<usize>,
 }
 
 impl Part {

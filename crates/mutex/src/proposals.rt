@@ -6,7 +6,7 @@ ghost use Rattle.mutex.specs.Candidates.{instance, instances, count_of_instances
 ghost use Rattle.mutex.specs.Proposals.{IsProposal, with_group};
 ghost use Rattle.mutex.specs.Steps.{AreRows};
 
-use crate::candidates::{Candidate, candidates};
+use crate::candidates::{Candidate, propose};
 use crate::group_list::Groups;
 use crate::instances::{collect, rows_by_predicate};
 use index_rows::{Row, empty_rows};
@@ -35,19 +35,15 @@ fn offer_instances(
 /// Returns proposed mutex groups of the index's atoms. Each is a usable group of two or more atoms, none of them
 /// constant or excluded, represented by their indices in increasing order. The groups are distinct.
 ///
-/// A part is a predicate that occurs in an effect, either with one argument bound to the parameter, if it has one or
-/// two arguments, or with no bound argument, if it has at most one. A candidate is one to three parts of distinct
-/// predicates, all of them with a bound argument or all without. The first 4,096 candidates are tried: those with a
-/// bound argument first, then those with fewer parts, then in the order of the parts. A candidate has one instance for
-/// each object of the task: the atoms with that object for the parameter, without those that are constant or excluded.
-/// A candidate without a bound argument has one instance. Every instance that is a usable group of two or more atoms is
-/// proposed, in order.
+/// The candidates are those that `propose` returns. A candidate has one instance for each object of the task: the atoms
+/// of its parts whose bound argument is that object, without those that are constant or excluded. A candidate without a
+/// bound argument has one instance. Every instance that is a usable group of two or more atoms is returned, in order.
 pub fn groups(alloc: Global, index: &ActionIndex<'_>) -> Result<Groups, AllocError>
     ensures proposals { IfOk result (λ groups. All (IsProposal index.now) groups) }
     ensures groups { IfOk result (λ groups. groups ≡ proposed_groups index.now) }
 {
     let rows = rows_by_predicate(alloc, index)?;
-    let candidates = candidates(alloc, index.task())?;
+    let candidates = propose(alloc, index.task())?;
     let mut lists = empty_rows(alloc, index.task().object_types.len().max(1))?;
     let mut groups = Groups::new(alloc);
     for candidate in &candidates {

@@ -11,7 +11,7 @@ use Rattle.pdb_walks.specs.Walks.{AreDistances, value_in, fall, IsGreatestFall}
 use Rattle.abstraction_groups.specs.Entrances.{LeadsTo, Classes, AreClasses}
 use Rattle.pdb_walks.proofs.Saturation.{distances_consistent, fall_unique}
 use Rattle.pdb.specs.Classes.{share_by, AreLeast}
-use Rattle.pdb.specs.Saturations.{IsFallOf, AreFalls, AreFull, AreWithin, IsCoveredAt}
+use Rattle.pdb.specs.Saturations.{AreConsistent, IsFallOf, AreFalls, AreFull, AreWithin, IsCoveredAt}
 use Rattle.pdb.proofs.ClassLaws.{operator_below}
 use Rattle.pdb.proofs.Lowering.{cases_set}
 use Rattle.pdb.proofs.Expansion.{share_told, share_none}
@@ -34,23 +34,27 @@ fall_at_most Infinite e x h = omega arith
 fall_at_most (Finite m) Infinite x h = omega arith
 fall_at_most (Finite m) (Finite n) x h = omega arith
 
--- over a transition distances fall by no more than the operator's share
-pub fall_within_share : (task : FiniteDomainTask) (a : Abstraction) (share : ℕ → ℕ) (values : List Distance) (o i j : ℕ) → IsAbstractionOf task a → AreDistances a share values → LeadsTo a o i j → fall (value_in values i) (value_in values j) ≤ share o
-fall_within_share task a share values o i j abs exact step =
+-- the distances under some shares are consistent under them
+pub distances_are_consistent : (task : FiniteDomainTask) (a : Abstraction) (share : ℕ → ℕ) (values : List Distance) → IsAbstractionOf task a → AreDistances a share values → AreConsistent a share values
+distances_are_consistent task a share values abs exact =
     let t : Table = record { abstraction = a; share = share; value = value_in values } in
-    let consistent = distances_consistent task t abs exact.exact in
-    fall_at_most (value_in values i) (value_in values j) (share o) (rw step.1 at (consistent.steps i o step.0))
+    (distances_consistent task t abs exact.exact).steps
+
+-- over a transition consistent values decrease by no more than the operator's share
+pub fall_within_share : (a : Abstraction) (share : ℕ → ℕ) (values : List Distance) (o i j : ℕ) → AreConsistent a share values → LeadsTo a o i j → fall (value_in values i) (value_in values j) ≤ share o
+fall_within_share a share values o i j steps step =
+    fall_at_most (value_in values i) (value_in values j) (share o) (rw step.1 at (steps i o step.0))
 
 -- no fall over a transition is greater than the least share of the operator's class
 pub falls_within_least : (task : FiniteDomainTask) (a b : Abstraction) (classes : Classes) (shares least : List ℕ) (values : List Distance) → b ≡ a → IsAbstractionOf task a → AreClasses b classes →
-    AreDistances a (λ o. slice_index shares o) values → length shares ≡ length task.operators → AreLeast classes shares least → AreWithin b classes (value_in values) least
-falls_within_least task a b classes shares least values e abs grouped exact long are j below o i c of step =
+    AreConsistent a (λ o. slice_index shares o) values → length shares ≡ length task.operators → AreLeast classes shares least → AreWithin b classes (value_in values) least
+falls_within_least task a b classes shares least values e abs grouped steps long are j below o i c of step =
     let share : ℕ → ℕ = λ o. slice_index shares o in
     let abstracts : IsAbstractionOf task b = subst (λ (x : Abstraction). IsAbstractionOf task x) (sym e) abs in
-    let distances : AreDistances b share values = subst (λ (x : Abstraction). AreDistances x share values) (sym e) exact in
+    let consistent : AreConsistent b share values = subst (λ (x : Abstraction). AreConsistent x share values) (sym e) steps in
     let p = are.reached o c (omega (arith, long, operator_below task b o i j abstracts step)) of in
     let also = grouped.alike o p.0 c i j of p.1 below step in
-    omega (arith, fall_within_share task b share values p.0 i j abstracts distances also, p.2)
+    omega (arith, fall_within_share b share values p.0 i j consistent also, p.2)
 
 -- if each number is at least the least share of its class, no decrease is greater
 pub covered_full : (a : Abstraction) (classes : Classes) (value : ℕ → Distance) (least numbers : List ℕ) (n : ℕ) → AreClasses a classes → classes.count ≤ n → AreWithin a classes value least → AreFull n least numbers →

@@ -6,4 +6,4 @@ pub mod ClassLaws
 pub mod Shares
 pub mod Totals
 pub mod Falls
-pub mod Zips
+pub mod Made

@@ -1,9 +1,14 @@
 -- The decreases of values over the transitions of classes of operators.
-use Rattle.std.specs.Prelude.{◌≡◌, ℕ, ◌<◌, ◌≤◌, ◌⊎◌, List, Some, slice_index}
-use Rattle.cost.specs.Distances.{Distance}
+use Rattle.std.specs.Prelude.{◌≡◌, ℕ, ◌<◌, ◌≤◌, ◌⊎◌, List, Some, IfSome, slice_index}
+use Rattle.cost.specs.Distances.{Distance, Finite, ◌≤ᵈ◌, ◌+ᵈ◌}
 use Rattle.abstraction.specs.Abstractions.{Abstraction}
-use Rattle.pdb_walks.specs.Walks.{fall}
+use Rattle.pdb_walks.specs.Walks.{fall, value_in}
 use Rattle.abstraction_groups.specs.Entrances.{LeadsTo, Classes}
+
+-- a transition lowers the value by at most the operator's share; of abstract goals nothing is required
+abbrev pub AreConsistent : Abstraction → (ℕ → ℕ) → List Distance → Type 0
+AreConsistent a share values = (i o : ℕ) → i < a.size
+    → IfSome (a.transition i o) (λ j. value_in values i ≤ᵈ Finite (share o) +ᵈ value_in values j)
 
 -- the number is 0, or the decrease over some transition of an operator of the class
 abbrev pub IsFallOf : Abstraction → Classes → (ℕ → Distance) → ℕ → ℕ → Type 0

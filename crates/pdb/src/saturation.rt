@@ -1,11 +1,11 @@
-//! The saturated cost function of a table of distances.
+//! The saturated cost function of a table.
 
 ghost use Rattle.std.specs.Prelude.{◌≡◌, ℕ, ◌^◌, ◌<◌, ◌≤◌, length, slice_index, Some, IfOk, OnOk};
 ghost use Rattle.cost.specs.Distances.{Finite};
 ghost use Rattle.fdr.specs.Tasks.{FiniteDomainTask};
-ghost use Rattle.pdb_walks.specs.Walks.{AreDistances, IsGreatestFall, value_in, fall};
+ghost use Rattle.pdb_walks.specs.Walks.{IsGreatestFall, value_in, fall};
 ghost use Rattle.abstraction_groups.specs.Entrances.{AreEntering, LeadsTo};
-ghost use Rattle.pdb.specs.Saturations.{AreFalls, AreFull, AreWithin, IsCoveredAt};
+ghost use Rattle.pdb.specs.Saturations.{AreConsistent, AreFalls, AreFull, AreWithin, IsCoveredAt};
 ghost use Rattle.pdb.specs.Numbers.{distance_in};
 
 use crate::kept::{as_numbers, distance_of};
@@ -165,9 +165,12 @@ pub(crate) fn set_greatest<T: BackwardTransitions>(
 }
 
 /// Returns the saturated cost function of a table: for each operator of the task, in order, the least share that
-/// preserves the distances (Seipp, Keller and Helmert 2020). It is the greatest decrease of the values over the
-/// operator's transitions, from a finite value to a lesser one, and 0 if there is none. `values` must be the distances
-/// under `shares`, which has one share for each operator.
+/// preserves the values (Seipp, Keller and Helmert 2020). It is the greatest decrease of the values over the operator's
+/// transitions, from a finite value to a lesser one, and 0 if there is none.
+///
+/// `shares` must have one share for each operator, and `values` one value for each abstract state. No transition may
+/// lower the value by more than the operator's share. The distances under these shares meet that, and so do other
+/// values: they may be too low, and those of abstract goals need not be 0.
 pub fn saturate<A: BackwardAbstraction>(
     alloc: Global,
     abstraction: &A,
@@ -175,7 +178,8 @@ pub fn saturate<A: BackwardAbstraction>(
     values: &Values,
 ) -> Result<Vec<u32>, AllocError>
     requires operators { length shares.now ≡ length (A.task abstraction.now).operators }
-    requires distances { AreDistances (A.abstraction abstraction.now) (λ o. slice_index shares.now o) values.now }
+    requires values { length values.now ≡ (A.abstraction abstraction.now).size }
+    requires steps { AreConsistent (A.abstraction abstraction.now) (λ o. slice_index shares.now o) values.now }
     ensures len { IfOk result (λ needed. length needed.items ≡ length shares.now) }
     ensures greatest { IfOk result (λ needed. (o : ℕ) →
         IsGreatestFall (A.abstraction abstraction.now) (value_in values.now) o (slice_index needed.items o)) }

@@ -38,6 +38,7 @@ fn abstraction_to<'a>(
 
 /// Returns the distances of an abstraction under the remaining costs, and the saturated cost function, computed by
 /// regression over `backward`.
+#[tactic(auto, using(pdb::proofs::Falls::distances_are_consistent))]
 fn saturated_by<A: BackwardAbstraction>(
     alloc: Global,
     backward: &A,

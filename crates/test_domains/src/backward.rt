@@ -70,6 +70,7 @@ fn are_distances(rt: &impl Abort, values: &Values, expected: &[u64]) {
 }
 
 /// Checks the distances and the saturated shares under the shares of the three operators.
+#[tactic(auto, using(pdb::proofs::Falls::distances_are_consistent))]
 fn has_distances(
     rt: &impl Abort,
     alloc: Global,

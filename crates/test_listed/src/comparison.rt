@@ -40,6 +40,7 @@ fn are_distances(rt: &impl Abort, values: &Values, expected: &[u64]) {
 }
 
 /// Checks the distances and the saturated shares of an abstraction whose transitions can be followed backwards.
+#[tactic(auto, using(pdb::proofs::Falls::distances_are_consistent))]
 pub(crate) fn has_table<A: BackwardAbstraction>(
     rt: &impl Abort,
     alloc: Global,

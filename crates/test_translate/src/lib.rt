@@ -1,5 +1,5 @@
-//! Tests of groups and variables of small tasks, and of the parts of the finite-domain tasks over them, worked out by
-//! hand.
+//! Tests of candidates, groups and variables of small tasks, and of the parts of the finite-domain tasks over them,
+//! worked out by hand.
 #![tactic(auto)]
 
 #[cfg(test)]
@@ -12,6 +12,8 @@ mod chosen_variables;
 mod listed_parts;
 #[cfg(test)]
 mod numbers;
+#[cfg(test)]
+mod proposed_candidates;
 #[cfg(test)]
 mod proposed_groups;
 #[cfg(test)]

@@ -3,6 +3,8 @@
 
 #[cfg(test)]
 mod comparison;
+#[cfg(test)]
+mod consistency;
 mod graph;
 mod members;
 #[cfg(test)]

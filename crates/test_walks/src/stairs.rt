@@ -1,12 +1,14 @@
 //! Tables of staircases, worked out by hand.
 
 use crate::comparison::{NONE, agrees, are_distances, graph_of};
+use crate::consistency::is_saturated_by;
 use crate::graph::Graph;
 use cert_value::Values;
 use pdb::{Job, Scratch, build_all};
 use std::alloc::Global;
 use std::process::Abort;
 use std::test::*;
+use std::thread::Threads;
 
 /// Returns a staircase: each abstract state is a step, counted from 0 at the bottom. Each of the first `touching`
 /// operators maps each step to the one below it by the operator's number plus 1, if there is such a step, and each of
@@ -166,6 +168,53 @@ fn costs_are_left_for_the_next_table(rt: HostRuntime) -> Result<(), Fail> {
     )
 }
 
+/// Checks the saturated shares of a table of a staircase, which is consistent and not of distances.
+fn stairs_need(
+    rt: &impl Abort,
+    alloc: Global,
+    goals: &[bool],
+    shares: &[u32],
+    values: &[u64],
+    saturated: &[u32],
+) -> Result<(), Fail> {
+    let graph = stairs(rt, alloc, goals, shares.len(), shares.len())?;
+    is_saturated_by(rt, alloc, &graph, shares, values, saturated)
+}
+
+/// The distances are 0 1 2.
+#[test]
+fn a_table_of_zeros_needs_no_shares(rt: HostRuntime) -> Result<(), Fail> {
+    stairs_need(
+        &rt,
+        rt.alloc(),
+        &[true, false, false],
+        &[1],
+        &[0, 0, 0],
+        &[0],
+    )
+}
+
+/// The distances are 0 3 6 9 with one operator, and 0 3 4 7 with two. The first operator goes down one step and the
+/// second two steps, so that the values 0 1 3 4 decrease by 1, 2 and 1 over the transitions of the first operator, and
+/// by 3 and 3 over those of the second.
+#[test]
+fn values_that_are_too_low_are_saturated(rt: HostRuntime) -> Result<(), Fail> {
+    let alloc = rt.alloc();
+    let ground = [true, false, false, false];
+    stairs_need(&rt, alloc, &ground, &[3], &[0, 1, 3, 4], &[2])?;
+    stairs_need(&rt, alloc, &ground, &[3, 4], &[0, 1, 3, 4], &[2, 3])
+}
+
+/// The abstract goal has the value 1 in the first table, and an infinite value in the second, whose finite values
+/// decrease by 2 and by 1 from one step to the step below it.
+#[test]
+fn abstract_goals_may_have_any_value(rt: HostRuntime) -> Result<(), Fail> {
+    let alloc = rt.alloc();
+    let ground = [true, false, false, false];
+    stairs_need(&rt, alloc, &ground, &[3], &[1, 2, 4, 5], &[2])?;
+    stairs_need(&rt, alloc, &ground, &[3], &[NONE, 3, 4, 6], &[2])
+}
+
 /// Checks the values of two tables.
 fn are_two_tables(rt: &impl Abort, tables: &[Values]) {
     match tables {
@@ -192,15 +241,15 @@ fn makes_the_table_of_each_job(rt: HostRuntime) -> Result<(), Fail> {
             shares: &[1, 7],
         },
     ];
-    let tables = build_all(alloc, &jobs).expect(&rt, "memory");
+    let tables = build_all(&rt, alloc, &jobs).expect(&rt, "memory");
     are_two_tables(&rt, &tables);
     Ok(())
 }
 
 /// Returns the number of tables of no job.
-fn count_of_no_tables(rt: &impl Abort, alloc: Global) -> usize {
+fn count_of_no_tables(rt: &(impl Abort + Threads + Sync), alloc: Global) -> usize {
     let none: [Job<'_, Graph>; 0] = [];
-    build_all(alloc, &none).expect(rt, "memory").len()
+    build_all(rt, alloc, &none).expect(rt, "memory").len()
 }
 
 #[test]

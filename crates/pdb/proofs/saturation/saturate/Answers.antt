@@ -2,9 +2,10 @@ use Rattle.std.proofs.Common.{◌≡◌, ◌∙◌, ℕ, ◌<◌, List, length, 
 use Rattle.std.specs.Prelude.{IfOk}
 use Rattle.cost.specs.Distances.{Distance}
 use Rattle.cert_value.specs.Kept.{kept_distance}
-use Rattle.pdb_walks.specs.Walks.{AreDistances, value_in, IsGreatestFall}
+use Rattle.pdb_walks.specs.Walks.{value_in, IsGreatestFall}
 use Rattle.pdb.specs.Numbers.{distance_in}
 use Rattle.pdb.specs.Classes.{share_by, AreLeast}
+use Rattle.pdb.specs.Saturations.{AreConsistent}
 use Rattle.pdb.proofs.Falls.{falls_within_least, falls_told}
 use Rattle.pdb.proofs.saturation.saturate.Goals as goal
 
@@ -19,8 +20,8 @@ set_greatest-requires-clause-falls g c =
     let least = c.deref-2.result.now in
     let are : AreLeast classes c.args.shares.now least = rw c.deref-2.ensures.value c.in_ok-set_least.ensures.least in
     let values = map kept_distance c.deref.result.now in
-    let exact : AreDistances a (λ o. slice_index c.args.shares.now o) values = rw (c.deref.ensures.value, c.in_ok-numbers.ensures) c.requires.distances in
-    falls_within_least task a b classes c.args.shares.now least values c.transitions-transitions.ensures abs grouped exact c.requires.operators are
+    let steps : AreConsistent a (λ o. slice_index c.args.shares.now o) values = rw (c.deref.ensures.value, c.in_ok-numbers.ensures) c.requires.steps in
+    falls_within_least task a b classes c.args.shares.now least values c.transitions-transitions.ensures abs grouped steps c.requires.operators are
 
 IfOk-weaker2 : {X E : Type 0} (r : Result X E) (P Q R : X → Type 0) → ((x : X) → P x → Q x → R x) → IfOk r P → IfOk r Q → IfOk r R
 IfOk-weaker2 (Ok x) P Q R f p q = f x p q

@@ -5,7 +5,7 @@ use Rattle.pdb_walks.specs.Walks.{AreDistances}
 use Rattle.pdb.specs.Numbers.{distance_in}
 use Rattle.pdb.specs.Classes.{share_by, AreLeast}
 use Rattle.pdb.specs.Saturations.{AreFalls, AreWithin}
-use Rattle.pdb.proofs.Falls.{falls_within_least, fall_told}
+use Rattle.pdb.proofs.Falls.{distances_are_consistent, falls_within_least, fall_told}
 use Rattle.pdb.proofs.table.take_table.Goals as goal
 
 pub set_greatest-requires-clause-falls : goal.set_greatest-requires-clause-falls
@@ -20,7 +20,8 @@ set_greatest-requires-clause-falls g c =
     let are : AreLeast classes c.args.left.now least = rw c.deref-2.ensures.value c.in_ok-search.ensures.least in
     let numbers : List ℕ = c.deref.result.now in
     let exact : AreDistances a (λ o. slice_index c.args.left.now o) (map kept_distance numbers) = rw c.deref.ensures.value c.in_ok-search.ensures.distances in
-    falls_within_least task a b classes c.args.left.now least (map kept_distance numbers) c.transitions-transitions.ensures abs grouped exact c.requires.operators are
+    let steps = distances_are_consistent task a (λ o. slice_index c.args.left.now o) (map kept_distance numbers) abs exact in
+    falls_within_least task a b classes c.args.left.now least (map kept_distance numbers) c.transitions-transitions.ensures abs grouped steps c.requires.operators are
 
 pub returns-clause-left : goal.returns-clause-left
 returns-clause-left g c =

@@ -2,7 +2,7 @@ use Rattle.std.proofs.Common.{List, take, ap, ◌∙◌, arith}
 use Rattle.mutex.specs.declared.parts.Part.{Part}
 use Rattle.mutex.specs.Candidates.{candidates_of, fluent_parts, bound_parts_of, free_parts_of}
 use Rattle.mutex.proofs.CandidateLaws.{both_kinds}
-use Rattle.mutex.proofs.candidates.candidates.Goals as goal
+use Rattle.mutex.proofs.candidates.propose.Goals as goal
 
 pub returns : goal.returns
 returns c =
