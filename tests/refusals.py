@@ -78,7 +78,8 @@ PLANNING = (("d", "domain.pddl"), ("p", "problem.pddl"))
 @dataclasses.dataclass(frozen=True)
 class End:
     """What answers have in common that name two cheapest plans: the last line of standard output, the exit status, and
-    the names of the files that are written; or, of a refused text, the line of its fault on standard error alone."""
+    the names of the files that are written; or, of a refused text, the line of its fault on standard error alone, with
+    its explanation if that is requested."""
 
     line: bytes = b""
     status: int = 0
@@ -131,6 +132,10 @@ def commands_on_faults():
         (("check", "d", "p", "c"), road | {"c": cert + "end\n"}, "F54 Trailing cert 17"),
         (("check-sas", "s", "c"), {"s": ROAD_SAS, "c": cert}, "F51 Expected cert 2"),
         (("migrate-cert", "c"), {"c": cert.removesuffix("end\n")}, "F53 Truncated cert"),
+        (("validate", "d", "p", "l", "--explain"), road | {"l": "(go a b)()"},
+         "F25 PlanShape plan 8\nl:1:9: this list is no step: a step is a name and its arguments, without lists\n(go a b)()\n        ^"),
+        (("check-sas", "s", "c", "--explain"), {"s": ROAD_SAS, "c": cert},
+         "F51 Expected cert 2\nc:2: another keyword, separator or number of words is required\npddl"),
     ):
         yield words, files, End(status=1, fault=f"optplan: {fault}\n".encode())
 
@@ -158,7 +163,9 @@ def is_right(kind, end, outcome):
     if kind in ("open", "read") and CANNOT_READ.fullmatch(outcome.err):
         return (outcome.out, outcome.status, outcome.files) == (b"", 7, {})
     if end.fault:
-        return kind == "write" and outcome == Outcome(status=end.status)
+        # The line is missing, and with it its explanation, or the explanation alone.
+        line = end.fault.splitlines(keepends=True)[0]
+        return kind == "write" and outcome in (Outcome(status=end.status), Outcome(err=line, status=end.status))
     failed = CANNOT_WRITE.fullmatch(outcome.err)
     return kind in ("open", "write") and outcome.status == 7 and bool(failed) and is_kept_besides(failed[1].decode(), end, outcome)
 

@@ -237,7 +237,7 @@ class Words(ProgramTest):
         ["d", "p", "optimal", "c"],
     ]
 
-    HELP = ["Usage: optplan optimal <DOMAIN> <PROBLEM> <PLAN> <CERT>", "optimal N", "valid N, at least B", "valid N, rejected CLAUSE PLACE",
+    HELP = ["Usage: optplan optimal [OPTIONS] <DOMAIN> <PROBLEM> <PLAN> <CERT>", "optimal N", "valid N, at least B", "valid N, rejected CLAUSE PLACE",
             "unsolvable", "at least B"]
 
     def test_misuse(self):

@@ -31,12 +31,12 @@ class CommandLine(ProgramTest):
     HELP_ROWS = [
         (["--help"], ["Validates PDDL plans", "Usage: optplan", "validate", "check-sas"]),
         (["-h"], ["Usage: optplan", "validate", "check-sas"]),
-        (["check-sas", "--help"], ["Usage: optplan check-sas <SAS> <CERT>", "accepted unsolvable"]),
-        (["check-sas", "s", "--help"], ["Usage: optplan check-sas <SAS> <CERT>"]),
+        (["check-sas", "--help"], ["Usage: optplan check-sas [OPTIONS] <SAS> <CERT>", "accepted unsolvable"]),
+        (["check-sas", "s", "--help"], ["Usage: optplan check-sas [OPTIONS] <SAS> <CERT>"]),
         (["solve", "--help"], ["Usage: optplan solve", "--ties <ORDER>", "fresh", "shallow", "deep", "f-value of a cheapest plan"]),
         (["solve-sas", "--help"], ["Usage: optplan solve-sas", "--ties <ORDER>", "fresh", "shallow", "deep", "f-value of a cheapest plan"]),
-        (["validate", "--help"], ["Usage: optplan validate <DOMAIN> <PROBLEM> <PLAN>", "goal open LITERAL"]),
-        (["validate", "d", "--help"], ["Usage: optplan validate <DOMAIN> <PROBLEM> <PLAN>"]),
+        (["validate", "--help"], ["Usage: optplan validate [OPTIONS] <DOMAIN> <PROBLEM> <PLAN>", "goal open LITERAL"]),
+        (["validate", "d", "--help"], ["Usage: optplan validate [OPTIONS] <DOMAIN> <PROBLEM> <PLAN>"]),
     ]
 
     WRONG_ROWS = [

@@ -12,7 +12,7 @@ use Rattle.optplan_replies.specs.Runs.{is_operand}
 use Rattle.optplan_optimal.specs.Running.{AskForOptimality}
 use Rattle.optplan_words.specs.Commands.{program}
 use Rattle.optplan_words.proofs.PlainArguments.{IsPlain}
-use Rattle.optplan_words.proofs.FileRequests.{IsRequest, row, validate_request, check_request, check_sas_request, optimal_request, translate_request, migrate_cert_request}
+use Rattle.optplan_words.proofs.FileRequests.{IsRequest, row, unexplained, validate_request, check_request, check_sas_request, optimal_request, translate_request, migrate_cert_request}
 use Rattle.optplan_verdicts.specs.Validation.{AskForValidation}
 use Rattle.optplan_verdicts.specs.SasChecking.{AskForSasCheck}
 use Rattle.optplan_verdicts.specs.Checking.{AskForCheck}
@@ -28,34 +28,34 @@ plain (b ∷ bs) is = go (b == 45) refl
     go true hyphen = let no_operand : is_operand (b ∷ bs) ≡ false = rw hyphen refl in absurd (true≢false (sym is ∙ no_operand))
     go false other = rw other refl
 
-pub asked_validation : (words : List (List ℕ)) (domain problem plan : List ℕ) → AskForValidation words domain problem plan → IsRequest words (codes "validate") (row (codes "DOMAIN") domain ∷ row (codes "PROBLEM") problem ∷ row (codes "PLAN") plan ∷ [])
+pub asked_validation : (words : List (List ℕ)) (domain problem plan : List ℕ) → AskForValidation words domain problem plan → IsRequest words (codes "validate") (row (codes "DOMAIN") domain ∷ row (codes "PROBLEM") problem ∷ row (codes "PLAN") plan ∷ unexplained ∷ [])
 asked_validation words domain problem plan asks =
-    subst (λ ws. IsRequest ws (codes "validate") (row (codes "DOMAIN") domain ∷ row (codes "PROBLEM") problem ∷ row (codes "PLAN") plan ∷ [])) (sym asks.are)
+    subst (λ ws. IsRequest ws (codes "validate") (row (codes "DOMAIN") domain ∷ row (codes "PROBLEM") problem ∷ row (codes "PLAN") plan ∷ unexplained ∷ [])) (sym asks.are)
     (validate_request asks.program domain problem plan (plain domain asks.domain_is, (plain problem asks.problem_is, (plain plan asks.plan_is, tt))))
 
-pub asked_check : (words : List (List ℕ)) (domain problem cert : List ℕ) → AskForCheck words domain problem cert → IsRequest words (codes "check") (row (codes "DOMAIN") domain ∷ row (codes "PROBLEM") problem ∷ row (codes "CERT") cert ∷ [])
+pub asked_check : (words : List (List ℕ)) (domain problem cert : List ℕ) → AskForCheck words domain problem cert → IsRequest words (codes "check") (row (codes "DOMAIN") domain ∷ row (codes "PROBLEM") problem ∷ row (codes "CERT") cert ∷ unexplained ∷ [])
 asked_check words domain problem cert asks =
-    subst (λ ws. IsRequest ws (codes "check") (row (codes "DOMAIN") domain ∷ row (codes "PROBLEM") problem ∷ row (codes "CERT") cert ∷ [])) (sym asks.are)
+    subst (λ ws. IsRequest ws (codes "check") (row (codes "DOMAIN") domain ∷ row (codes "PROBLEM") problem ∷ row (codes "CERT") cert ∷ unexplained ∷ [])) (sym asks.are)
     (check_request asks.program domain problem cert (plain domain asks.domain_is, (plain problem asks.problem_is, (plain cert asks.cert_is, tt))))
 
-pub asked_sas_check : (words : List (List ℕ)) (sas cert : List ℕ) → AskForSasCheck words sas cert → IsRequest words (codes "check-sas") (row (codes "SAS") sas ∷ row (codes "CERT") cert ∷ [])
+pub asked_sas_check : (words : List (List ℕ)) (sas cert : List ℕ) → AskForSasCheck words sas cert → IsRequest words (codes "check-sas") (row (codes "SAS") sas ∷ row (codes "CERT") cert ∷ unexplained ∷ [])
 asked_sas_check words sas cert asks =
-    subst (λ ws. IsRequest ws (codes "check-sas") (row (codes "SAS") sas ∷ row (codes "CERT") cert ∷ [])) (sym asks.are)
+    subst (λ ws. IsRequest ws (codes "check-sas") (row (codes "SAS") sas ∷ row (codes "CERT") cert ∷ unexplained ∷ [])) (sym asks.are)
     (check_sas_request asks.program sas cert (plain sas asks.sas_is, (plain cert asks.cert_is, tt)))
 
-pub asked_judgement : (words : List (List ℕ)) (domain problem plan cert : List ℕ) → AskForOptimality words domain problem plan cert → IsRequest words (codes "optimal") (row (codes "DOMAIN") domain ∷ row (codes "PROBLEM") problem ∷ row (codes "PLAN") plan ∷ row (codes "CERT") cert ∷ [])
+pub asked_judgement : (words : List (List ℕ)) (domain problem plan cert : List ℕ) → AskForOptimality words domain problem plan cert → IsRequest words (codes "optimal") (row (codes "DOMAIN") domain ∷ row (codes "PROBLEM") problem ∷ row (codes "PLAN") plan ∷ row (codes "CERT") cert ∷ unexplained ∷ [])
 asked_judgement words domain problem plan cert asks =
-    subst (λ ws. IsRequest ws (codes "optimal") (row (codes "DOMAIN") domain ∷ row (codes "PROBLEM") problem ∷ row (codes "PLAN") plan ∷ row (codes "CERT") cert ∷ [])) (sym asks.are)
+    subst (λ ws. IsRequest ws (codes "optimal") (row (codes "DOMAIN") domain ∷ row (codes "PROBLEM") problem ∷ row (codes "PLAN") plan ∷ row (codes "CERT") cert ∷ unexplained ∷ [])) (sym asks.are)
     (optimal_request asks.program domain problem plan cert (plain domain asks.domain_is, (plain problem asks.problem_is, (plain plan asks.plan_is, (plain cert asks.cert_is, tt)))))
 
-pub asked_translation : (words : List (List ℕ)) (domain problem : List ℕ) → AskForTranslation words domain problem → IsRequest words (codes "translate") (row (codes "DOMAIN") domain ∷ row (codes "PROBLEM") problem ∷ [])
+pub asked_translation : (words : List (List ℕ)) (domain problem : List ℕ) → AskForTranslation words domain problem → IsRequest words (codes "translate") (row (codes "DOMAIN") domain ∷ row (codes "PROBLEM") problem ∷ unexplained ∷ [])
 asked_translation words domain problem asks =
-    subst (λ ws. IsRequest ws (codes "translate") (row (codes "DOMAIN") domain ∷ row (codes "PROBLEM") problem ∷ [])) (sym asks.are)
+    subst (λ ws. IsRequest ws (codes "translate") (row (codes "DOMAIN") domain ∷ row (codes "PROBLEM") problem ∷ unexplained ∷ [])) (sym asks.are)
     (translate_request asks.program domain problem (plain domain asks.domain_is, (plain problem asks.problem_is, tt)))
 
-pub asked_migration : (words : List (List ℕ)) (cert : List ℕ) → AskForMigration words cert → IsRequest words (codes "migrate-cert") (row (codes "CERT") cert ∷ [])
+pub asked_migration : (words : List (List ℕ)) (cert : List ℕ) → AskForMigration words cert → IsRequest words (codes "migrate-cert") (row (codes "CERT") cert ∷ unexplained ∷ [])
 asked_migration words cert asks =
-    subst (λ ws. IsRequest ws (codes "migrate-cert") (row (codes "CERT") cert ∷ [])) (sym asks.are)
+    subst (λ ws. IsRequest ws (codes "migrate-cert") (row (codes "CERT") cert ∷ unexplained ∷ [])) (sym asks.are)
     (migrate_cert_request asks.program cert (plain cert asks.cert_is, tt))
 
 -- ---- refusals

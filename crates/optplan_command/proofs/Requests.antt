@@ -17,6 +17,7 @@ use Rattle.optplan_verdicts.specs.SasChecking.{ChecksSas}
 use Rattle.optplan_verdicts.specs.Checking.{Checks}
 use Rattle.optplan_command.specs.Translating.{Translates}
 use Rattle.optplan_command.specs.Migrating.{Migrates}
+use Rattle.optplan_command.specs.Options.{is_set}
 use Rattle.optplan_command.specs.SolveWords.{HasRefusedValue, SolvesByWords, SolvesSasByWords, operand}
 use Rattle.optplan_command.specs.SolvingCommands.{name_of, Solved}
 use Rattle.optplan_command.specs.declared.solve_words.SolvingCommand.{SolvingCommand}
@@ -87,11 +88,11 @@ module _ (name : List ℕ) (value : List ℕ → Option (List ℕ)) (old new : L
   does_solved SolveSas is solved = does_solve_sas is solved
 
   -- a command on files alone
-  pub does_files : (command : FileCommand) → IsNamed name value command → DoesCommand old new command status → DoesRequest name value old new status
+  pub does_files : (command : FileCommand) → IsNamed name value command → DoesCommand old new command (is_set value (codes "explain")) status → DoesRequest name value old new status
   does_files (Validate domain problem plan) (is, d, p, l) done = record {
-    validates = λ e. subst (λ x. Validates old new x (operand value (codes "PROBLEM")) (operand value (codes "PLAN")) status) d
-        (subst (λ x. Validates old new domain.now x (operand value (codes "PLAN")) status) p
-        (subst (λ x. Validates old new domain.now problem.now x status) l done));
+    validates = λ e. subst (λ x. Validates old new x (operand value (codes "PROBLEM")) (operand value (codes "PLAN")) (is_set value (codes "explain")) status) d
+        (subst (λ x. Validates old new domain.now x (operand value (codes "PLAN")) (is_set value (codes "explain")) status) p
+        (subst (λ x. Validates old new domain.now problem.now x (is_set value (codes "explain")) status) l done));
     checks = λ e. absurd (apart (codes "validate") (codes "check") (λ m. omega (arith, m)) (sym is ∙ e));
     checks_sas = λ e. absurd (apart (codes "validate") (codes "check-sas") (λ m. omega (arith, m)) (sym is ∙ e));
     judges = λ e. absurd (apart (codes "validate") (codes "optimal") (λ m. omega (arith, m)) (sym is ∙ e));
@@ -102,9 +103,9 @@ module _ (name : List ℕ) (value : List ℕ → Option (List ℕ)) (old new : L
   }
   does_files (Check domain problem cert) (is, d, p, c) done = record {
     validates = λ e. absurd (apart (codes "check") (codes "validate") (λ m. omega (arith, m)) (sym is ∙ e));
-    checks = λ e. subst (λ x. Checks old new x (operand value (codes "PROBLEM")) (operand value (codes "CERT")) status) d
-        (subst (λ x. Checks old new domain.now x (operand value (codes "CERT")) status) p
-        (subst (λ x. Checks old new domain.now problem.now x status) c done));
+    checks = λ e. subst (λ x. Checks old new x (operand value (codes "PROBLEM")) (operand value (codes "CERT")) (is_set value (codes "explain")) status) d
+        (subst (λ x. Checks old new domain.now x (operand value (codes "CERT")) (is_set value (codes "explain")) status) p
+        (subst (λ x. Checks old new domain.now problem.now x (is_set value (codes "explain")) status) c done));
     checks_sas = λ e. absurd (apart (codes "check") (codes "check-sas") (λ m. omega (arith, m)) (sym is ∙ e));
     judges = λ e. absurd (apart (codes "check") (codes "optimal") (λ m. omega (arith, m)) (sym is ∙ e));
     translates = λ e. absurd (apart (codes "check") (codes "translate") (λ m. omega (arith, m)) (sym is ∙ e));
@@ -115,7 +116,7 @@ module _ (name : List ℕ) (value : List ℕ → Option (List ℕ)) (old new : L
   does_files (CheckSas sas cert) (is, s, c) done = record {
     validates = λ e. absurd (apart (codes "check-sas") (codes "validate") (λ m. omega (arith, m)) (sym is ∙ e));
     checks = λ e. absurd (apart (codes "check-sas") (codes "check") (λ m. omega (arith, m)) (sym is ∙ e));
-    checks_sas = λ e. subst (λ x. ChecksSas old new x (operand value (codes "CERT")) status) s (subst (λ x. ChecksSas old new sas.now x status) c done);
+    checks_sas = λ e. subst (λ x. ChecksSas old new x (operand value (codes "CERT")) (is_set value (codes "explain")) status) s (subst (λ x. ChecksSas old new sas.now x (is_set value (codes "explain")) status) c done);
     judges = λ e. absurd (apart (codes "check-sas") (codes "optimal") (λ m. omega (arith, m)) (sym is ∙ e));
     translates = λ e. absurd (apart (codes "check-sas") (codes "translate") (λ m. omega (arith, m)) (sym is ∙ e));
     migrates = λ e. absurd (apart (codes "check-sas") (codes "migrate-cert") (λ m. omega (arith, m)) (sym is ∙ e));
@@ -126,10 +127,10 @@ module _ (name : List ℕ) (value : List ℕ → Option (List ℕ)) (old new : L
     validates = λ e. absurd (apart (codes "optimal") (codes "validate") (λ m. omega (arith, m)) (sym is ∙ e));
     checks = λ e. absurd (apart (codes "optimal") (codes "check") (λ m. omega (arith, m)) (sym is ∙ e));
     checks_sas = λ e. absurd (apart (codes "optimal") (codes "check-sas") (λ m. omega (arith, m)) (sym is ∙ e));
-    judges = λ e. subst (λ x. JudgesOptimality old new x (operand value (codes "PROBLEM")) (operand value (codes "PLAN")) (operand value (codes "CERT")) status) d
-        (subst (λ x. JudgesOptimality old new domain.now x (operand value (codes "PLAN")) (operand value (codes "CERT")) status) p
-        (subst (λ x. JudgesOptimality old new domain.now problem.now x (operand value (codes "CERT")) status) l
-        (subst (λ x. JudgesOptimality old new domain.now problem.now plan.now x status) c done)));
+    judges = λ e. subst (λ x. JudgesOptimality old new x (operand value (codes "PROBLEM")) (operand value (codes "PLAN")) (operand value (codes "CERT")) (is_set value (codes "explain")) status) d
+        (subst (λ x. JudgesOptimality old new domain.now x (operand value (codes "PLAN")) (operand value (codes "CERT")) (is_set value (codes "explain")) status) p
+        (subst (λ x. JudgesOptimality old new domain.now problem.now x (operand value (codes "CERT")) (is_set value (codes "explain")) status) l
+        (subst (λ x. JudgesOptimality old new domain.now problem.now plan.now x (is_set value (codes "explain")) status) c done)));
     translates = λ e. absurd (apart (codes "optimal") (codes "translate") (λ m. omega (arith, m)) (sym is ∙ e));
     migrates = λ e. absurd (apart (codes "optimal") (codes "migrate-cert") (λ m. omega (arith, m)) (sym is ∙ e));
     solves = λ e. absurd (apart (codes "optimal") (codes "solve") (λ m. omega (arith, m)) (sym is ∙ e));
@@ -140,7 +141,7 @@ module _ (name : List ℕ) (value : List ℕ → Option (List ℕ)) (old new : L
     checks = λ e. absurd (apart (codes "translate") (codes "check") (λ m. omega (arith, m)) (sym is ∙ e));
     checks_sas = λ e. absurd (apart (codes "translate") (codes "check-sas") (λ m. omega (arith, m)) (sym is ∙ e));
     judges = λ e. absurd (apart (codes "translate") (codes "optimal") (λ m. omega (arith, m)) (sym is ∙ e));
-    translates = λ e. subst (λ x. Translates old new x (operand value (codes "PROBLEM")) status) d (subst (λ x. Translates old new domain.now x status) p done);
+    translates = λ e. subst (λ x. Translates old new x (operand value (codes "PROBLEM")) (is_set value (codes "explain")) status) d (subst (λ x. Translates old new domain.now x (is_set value (codes "explain")) status) p done);
     migrates = λ e. absurd (apart (codes "translate") (codes "migrate-cert") (λ m. omega (arith, m)) (sym is ∙ e));
     solves = λ e. absurd (apart (codes "translate") (codes "solve") (λ m. omega (arith, m)) (sym is ∙ e));
     solves_sas = λ e. absurd (apart (codes "translate") (codes "solve-sas") (λ m. omega (arith, m)) (sym is ∙ e));
@@ -151,7 +152,7 @@ module _ (name : List ℕ) (value : List ℕ → Option (List ℕ)) (old new : L
     checks_sas = λ e. absurd (apart (codes "migrate-cert") (codes "check-sas") (λ m. omega (arith, m)) (sym is ∙ e));
     judges = λ e. absurd (apart (codes "migrate-cert") (codes "optimal") (λ m. omega (arith, m)) (sym is ∙ e));
     translates = λ e. absurd (apart (codes "migrate-cert") (codes "translate") (λ m. omega (arith, m)) (sym is ∙ e));
-    migrates = λ e. subst (λ x. Migrates old new x status) c done;
+    migrates = λ e. subst (λ x. Migrates old new x (is_set value (codes "explain")) status) c done;
     solves = λ e. absurd (apart (codes "migrate-cert") (codes "solve") (λ m. omega (arith, m)) (sym is ∙ e));
     solves_sas = λ e. absurd (apart (codes "migrate-cert") (codes "solve-sas") (λ m. omega (arith, m)) (sym is ∙ e));
   }

@@ -1,5 +1,5 @@
 -- The commands that work on files alone: their names and files, and what each does.
-use Rattle.std.specs.Prelude.{◌≡◌, ◌≢◌, ℕ, List, Option, codes}
+use Rattle.std.specs.Prelude.{◌≡◌, ◌≢◌, ℕ, Bool, List, Option, codes}
 use Rattle.optplan_device.specs.Events.{Event}
 use Rattle.optplan_replies.specs.declared.status.Status.{Status}
 use Rattle.optplan_optimal.specs.Running.{JudgesOptimality}
@@ -30,11 +30,11 @@ abbrev pub NamesNoFileCommand : List ℕ → Type 0
 NamesNoFileCommand name =
     (name ≢ codes "validate") × (name ≢ codes "check") × (name ≢ codes "check-sas") × (name ≢ codes "optimal") × (name ≢ codes "translate") × (name ≢ codes "migrate-cert")
 
--- the events of a run of the command, and its exit status
-abbrev pub DoesCommand : List Event → List Event → FileCommand → Status → Type 0
-DoesCommand old new (Validate domain problem plan) status = Validates old new domain.now problem.now plan.now status
-DoesCommand old new (Check domain problem cert) status = Checks old new domain.now problem.now cert.now status
-DoesCommand old new (CheckSas sas cert) status = ChecksSas old new sas.now cert.now status
-DoesCommand old new (Optimal domain problem plan cert) status = JudgesOptimality old new domain.now problem.now plan.now cert.now status
-DoesCommand old new (Translate domain problem) status = Translates old new domain.now problem.now status
-DoesCommand old new (MigrateCert cert) status = Migrates old new cert.now status
+-- the events of a run of the command, which explains a fault of its texts if that is requested, and its exit status
+abbrev pub DoesCommand : List Event → List Event → FileCommand → Bool → Status → Type 0
+DoesCommand old new (Validate domain problem plan) explains status = Validates old new domain.now problem.now plan.now explains status
+DoesCommand old new (Check domain problem cert) explains status = Checks old new domain.now problem.now cert.now explains status
+DoesCommand old new (CheckSas sas cert) explains status = ChecksSas old new sas.now cert.now explains status
+DoesCommand old new (Optimal domain problem plan cert) explains status = JudgesOptimality old new domain.now problem.now plan.now cert.now explains status
+DoesCommand old new (Translate domain problem) explains status = Translates old new domain.now problem.now explains status
+DoesCommand old new (MigrateCert cert) explains status = Migrates old new cert.now explains status

@@ -1,6 +1,6 @@
 -- The conversion of a certificate of version 1 to version 2: the arguments that request it, the answer for the
 -- certificate's text, and what the command does.
-use Rattle.std.specs.Prelude.{◌≡◌, ◌≢◌, ℕ, true, List, [], ◌∷◌, ◌++◌, Err, codes}
+use Rattle.std.specs.Prelude.{◌≡◌, ◌≢◌, ℕ, Bool, true, List, [], ◌∷◌, ◌++◌, Err, codes}
 use Rattle.optplan_device.specs.Events.{Event, HasRead}
 use Rattle.cert_value.specs.Certificates.{CertificateValue}
 use Rattle.cert_value.specs.Lawful.{IsLawful}
@@ -9,6 +9,8 @@ use Rattle.cert_value.specs.declared.certificate.Version.TheVariants.{One, Two, 
 use Rattle.cert_text.specs.Spelling.{spelling}
 use Rattle.cert_text.specs.Reading.{certificate_of}
 use Rattle.cert_text.specs.declared.fault.CertFault.TheVariants as cert_fault
+use Rattle.optplan_explain.specs.Explanations.{IsExplained}
+use Rattle.optplan_explain.specs.Files.{ReadFiles, no_files, with_cert}
 use Rattle.optplan_replies.specs.declared.status.Status.{Status}
 use Rattle.optplan_replies.specs.declared.status.Status.TheVariants.{Done}
 use Rattle.optplan_replies.specs.Runs.{is_operand, Follows}
@@ -51,9 +53,15 @@ IsMigrationRefusal cert GroundLimit = ⊥
 IsMigrationRefusal cert (TaskTooLarge table) = ⊥
 IsMigrationRefusal cert TotalTooLarge = ⊥
 
--- the file is read; then the converted text is printed, or the file's text is refused
-pub record Migrates (old new : List Event) (cert : List ℕ) (status : Status) : Type 0 where
+-- the file that a fault may name
+abbrev pub files : List ℕ → List ℕ → ReadFiles
+files cert c = with_cert no_files cert c
+
+-- the file is read; then the converted text is printed, or the file's text is refused, and the fault explained if that
+-- is requested
+pub record Migrates (old new : List Event) (cert : List ℕ) (explains : Bool) (status : Status) : Type 0 where
   pub cert_text : List ℕ
   pub later : List Event
   pub events : new ≡ old ++ (HasRead cert cert_text ∷ later)
-  pub follows : Follows (IsMigrationAnswer cert_text) (IsMigrationRefusal cert_text) later status
+  pub follows : Follows (IsMigrationAnswer cert_text) (IsMigrationRefusal cert_text)
+      (IsExplained explains (files cert cert_text)) later status

@@ -105,6 +105,10 @@ abbrev pub is_same : Option (List ℕ) → List ℕ → Bool
 is_same None name = false
 is_same (Some other) name = bytes_eq other name
 
+-- an option without a value is among the arguments: then its value is `true`, and otherwise `false`
+abbrev pub is_set : (List ℕ → Option (List ℕ)) → List ℕ → Bool
+is_set value name = is_same (value name) (codes "true")
+
 -- a file of this name, which is written, is read too, or is this other one that is written; but `/dev/null` never is
 abbrev pub is_taken : (List ℕ → Option (List ℕ)) → Option (List ℕ) → List ℕ → Bool
 is_taken value other name =
@@ -120,6 +124,7 @@ has_taken value other (Some name) = is_taken value other name
 pub record AreSettingsOf (value : List ℕ → Option (List ℕ)) (settings : Settings) : Type 0 where
   pub choices : AreChoicesOf value settings.options
   pub schedule : IsScheduleOf value settings.schedule
+  pub explains : settings.explains ≡ is_set value (codes "explain")
   pub files : files_of settings ≡ record { plan = value (codes "plan"); cert = value (codes "cert") }
   pub cert_is_own : has_taken value None (value (codes "cert")) ≡ false
   pub plan_is_own : has_taken value (value (codes "cert")) (value (codes "plan")) ≡ false

@@ -13,6 +13,7 @@ use Rattle.optplan_verdicts.specs.SasChecking.{ChecksSas}
 use Rattle.optplan_verdicts.specs.Checking.{Checks}
 use Rattle.optplan_command.specs.Translating.{Translates}
 use Rattle.optplan_command.specs.Migrating.{Migrates}
+use Rattle.optplan_command.specs.Options.{is_set}
 use Rattle.optplan_command.specs.SolveWords.{HasRefusedValue, SolvesByWords, SolvesSasByWords, operand}
 
 -- the value of an operand or an option, by its name
@@ -21,12 +22,12 @@ value_in rows name = first_of name rows
 
 -- the command of this name is run, with these values of its operands and options
 pub record DoesRequest (name : List ℕ) (value : List ℕ → Option (List ℕ)) (old new : List Event) (status : Status) : Type 0 where
-  pub validates : name ≡ codes "validate" → Validates old new (operand value (codes "DOMAIN")) (operand value (codes "PROBLEM")) (operand value (codes "PLAN")) status
-  pub checks : name ≡ codes "check" → Checks old new (operand value (codes "DOMAIN")) (operand value (codes "PROBLEM")) (operand value (codes "CERT")) status
-  pub checks_sas : name ≡ codes "check-sas" → ChecksSas old new (operand value (codes "SAS")) (operand value (codes "CERT")) status
-  pub judges : name ≡ codes "optimal" → JudgesOptimality old new (operand value (codes "DOMAIN")) (operand value (codes "PROBLEM")) (operand value (codes "PLAN")) (operand value (codes "CERT")) status
-  pub translates : name ≡ codes "translate" → Translates old new (operand value (codes "DOMAIN")) (operand value (codes "PROBLEM")) status
-  pub migrates : name ≡ codes "migrate-cert" → Migrates old new (operand value (codes "CERT")) status
+  pub validates : name ≡ codes "validate" → Validates old new (operand value (codes "DOMAIN")) (operand value (codes "PROBLEM")) (operand value (codes "PLAN")) (is_set value (codes "explain")) status
+  pub checks : name ≡ codes "check" → Checks old new (operand value (codes "DOMAIN")) (operand value (codes "PROBLEM")) (operand value (codes "CERT")) (is_set value (codes "explain")) status
+  pub checks_sas : name ≡ codes "check-sas" → ChecksSas old new (operand value (codes "SAS")) (operand value (codes "CERT")) (is_set value (codes "explain")) status
+  pub judges : name ≡ codes "optimal" → JudgesOptimality old new (operand value (codes "DOMAIN")) (operand value (codes "PROBLEM")) (operand value (codes "PLAN")) (operand value (codes "CERT")) (is_set value (codes "explain")) status
+  pub translates : name ≡ codes "translate" → Translates old new (operand value (codes "DOMAIN")) (operand value (codes "PROBLEM")) (is_set value (codes "explain")) status
+  pub migrates : name ≡ codes "migrate-cert" → Migrates old new (operand value (codes "CERT")) (is_set value (codes "explain")) status
   pub solves : name ≡ codes "solve" → SolvesByWords value old new status
   pub solves_sas : name ≡ codes "solve-sas" → SolvesSasByWords value old new status
 

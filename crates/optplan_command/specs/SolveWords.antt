@@ -20,10 +20,10 @@ HasRefusedValue value = (settings : Settings) → AreSettingsOf value settings �
 pub record SolvesByWords (value : List ℕ → Option (List ℕ)) (old new : List Event) (status : Status) : Type 0 where
   pub settings : Settings
   pub asked : AreSettingsOf value settings
-  pub solves : Solves old new (operand value (codes "DOMAIN")) (operand value (codes "PROBLEM")) settings.options settings.schedule (files_of settings) status
+  pub solves : Solves old new (operand value (codes "DOMAIN")) (operand value (codes "PROBLEM")) settings.options settings.schedule (files_of settings) settings.explains status
 
 -- the finite-domain task of this file is solved as the options request
 pub record SolvesSasByWords (value : List ℕ → Option (List ℕ)) (old new : List Event) (status : Status) : Type 0 where
   pub settings : Settings
   pub asked : AreSettingsOf value settings
-  pub solves : SolvesSas old new (operand value (codes "SAS")) settings.options settings.schedule (files_of settings) status
+  pub solves : SolvesSas old new (operand value (codes "SAS")) settings.options settings.schedule (files_of settings) settings.explains status

@@ -1,12 +1,14 @@
 -- The translation of a planning task: the answer for its two texts, the arguments that request it, and what the command
 -- does.
-use Rattle.std.specs.Prelude.{◌≡◌, ℕ, true, List, [], ◌∷◌, ◌++◌, length, map, codes}
+use Rattle.std.specs.Prelude.{◌≡◌, ℕ, Bool, true, List, [], ◌∷◌, ◌++◌, length, map, codes}
 use Rattle.optplan_device.specs.Events.{Event}
 use Rattle.pddl_task.specs.Planning.{PlanningTask}
 use Rattle.pddl.specs.Texts.{SpellTask}
 use Rattle.translate.specs.Translated.{TranslatedTask, IsTranslation, HasSamePlans, IsUntranslated}
 use Rattle.translate.specs.declared.fault.SizeFault.TheVariants as translating
 use Rattle.sasfile_writer.specs.Written.{written}
+use Rattle.optplan_explain.specs.Explanations.{IsExplained}
+use Rattle.optplan_explain.specs.Files.{task_files}
 use Rattle.optplan_replies.specs.declared.status.Status.{Status}
 use Rattle.optplan_replies.specs.declared.status.Status.TheVariants.{Done}
 use Rattle.optplan_replies.specs.Reports.{IsTaskReport}
@@ -48,10 +50,12 @@ pub record AskForTranslation (words : List (List ℕ)) (domain problem : List �
 abbrev pub IsTranslationAnswer : List ℕ → List ℕ → List ℕ → Status → Type 0
 IsTranslationAnswer domain problem text status = IsTranslationText domain problem text × (status ≡ Done)
 
--- the two files are read, in this order; then the text of a translation is printed, or one of the texts is refused
-pub record Translates (old new : List Event) (domain problem : List ℕ) (status : Status) : Type 0 where
+-- the two files are read, in this order; then the text of a translation is printed, or one of the texts is refused, and
+-- the fault explained if that is requested
+pub record Translates (old new : List Event) (domain problem : List ℕ) (explains : Bool) (status : Status) : Type 0 where
   pub domain_text : List ℕ
   pub problem_text : List ℕ
   pub later : List Event
   pub events : new ≡ old ++ (task_reads domain domain_text problem problem_text ++ later)
-  pub follows : Follows (IsTranslationAnswer domain_text problem_text) (IsTranslationRefusal domain_text problem_text) later status
+  pub follows : Follows (IsTranslationAnswer domain_text problem_text) (IsTranslationRefusal domain_text problem_text)
+      (IsExplained explains (task_files domain domain_text problem problem_text)) later status

@@ -1,6 +1,6 @@
 //! The command line.
 
-ghost use Rattle.std.specs.Prelude.{◌≡◌, ◌≢◌, ◌≤◌, ◌+◌, ◌⊎◌, ℕ, List, [], Some, IfOk, IfErr, OnErr};
+ghost use Rattle.std.specs.Prelude.{◌≡◌, ◌≢◌, ◌≤◌, ◌+◌, ◌⊎◌, ℕ, List, [], Some, false, IfOk, IfErr, OnErr};
 ghost use Rattle.clap.specs.Walk.{Row};
 ghost use Rattle.clap.specs.Kinds.{HasKind};
 ghost use Rattle.clap.specs.Words.{fault_of, kind_of, subcommand_of};
@@ -19,6 +19,7 @@ ghost use Rattle.optplan_command.specs.Requests.{DoesRequest, IsMisuse, IsRefuse
 
 use crate::file_command::run_files;
 use crate::file_words::file_command;
+use crate::options::is_set;
 use crate::solve_words::{solve_by_words, solving_command};
 use clap::Error;
 use clap::error::ErrorKind;
@@ -54,7 +55,10 @@ fn run_words<D: Device, R: Runtime>(
         return solve_by_words(rt, device, command, words);
     }
     match file_command(name, words) {
-        Some(command) => Ok(run_files(rt, device, command)),
+        Some(command) => {
+            let explains = is_set(words, "explain");
+            Ok(run_files(rt, device, command, explains))
+        }
         None => Ok(Status::Misused),
     }
 }
@@ -86,27 +90,28 @@ fn show<D: Device>(alloc: Global, device: &mut D, error: &Error) -> Status
 /// All I/O is through the device. If a report on standard error fails, the exit status is unchanged.
 ///
 /// The meaning of the arguments, with operands and options in any order, is that of the definitions of `clap`. For a
-/// command that works on files alone, none of which begins with `-`, the contract also states it without them.
+/// command that works on files alone, none of which begins with `-`, the contract also states it without them, for
+/// arguments without `--explain`: then there is at most one report.
 pub fn run<D: Device, R: Runtime>(words: &[String], device: &mut D, rt: &R) -> Status
     ensures validates { (h : List Event) (domain problem plan : List ℕ) → D.history device.old ≡ Some h →
         AskForValidation (texts_of words.now) domain problem plan →
         D.failure_count device.new ≡ D.failure_count device.old → result ≢ Status.OutOfMemory →
-        (new : List Event) × (D.history device.new ≡ Some new) × Validates h new domain problem plan result }
+        (new : List Event) × (D.history device.new ≡ Some new) × Validates h new domain problem plan false result }
     ensures checks_sas { (h : List Event) (sas cert : List ℕ) → D.history device.old ≡ Some h → AskForSasCheck (texts_of words.now) sas cert →
         D.failure_count device.new ≡ D.failure_count device.old → result ≢ Status.OutOfMemory →
-        (new : List Event) × (D.history device.new ≡ Some new) × ChecksSas h new sas cert result }
+        (new : List Event) × (D.history device.new ≡ Some new) × ChecksSas h new sas cert false result }
     ensures checks { (h : List Event) (domain problem cert : List ℕ) → D.history device.old ≡ Some h →
         AskForCheck (texts_of words.now) domain problem cert → D.failure_count device.new ≡ D.failure_count device.old → result ≢ Status.OutOfMemory →
-        (new : List Event) × (D.history device.new ≡ Some new) × Checks h new domain problem cert result }
+        (new : List Event) × (D.history device.new ≡ Some new) × Checks h new domain problem cert false result }
     ensures judges { (h : List Event) (domain problem plan cert : List ℕ) → D.history device.old ≡ Some h →
         AskForOptimality (texts_of words.now) domain problem plan cert → D.failure_count device.new ≡ D.failure_count device.old → result ≢ Status.OutOfMemory →
-        (new : List Event) × (D.history device.new ≡ Some new) × JudgesOptimality h new domain problem plan cert result }
+        (new : List Event) × (D.history device.new ≡ Some new) × JudgesOptimality h new domain problem plan cert false result }
     ensures translates { (h : List Event) (domain problem : List ℕ) → D.history device.old ≡ Some h →
         AskForTranslation (texts_of words.now) domain problem → D.failure_count device.new ≡ D.failure_count device.old → result ≢ Status.OutOfMemory →
-        (new : List Event) × (D.history device.new ≡ Some new) × Translates h new domain problem result }
+        (new : List Event) × (D.history device.new ≡ Some new) × Translates h new domain problem false result }
     ensures migrates { (h : List Event) (cert : List ℕ) → D.history device.old ≡ Some h → AskForMigration (texts_of words.now) cert →
         D.failure_count device.new ≡ D.failure_count device.old → result ≢ Status.OutOfMemory →
-        (new : List Event) × (D.history device.new ≡ Some new) × Migrates h new cert result }
+        (new : List Event) × (D.history device.new ≡ Some new) × Migrates h new cert false result }
     ensures requests { (h : List Event) (name : List ℕ) (rows : List Row) → D.history device.old ≡ Some h →
         fault_of program (texts_of words.now) ≡ [] → subcommand_of program (texts_of words.now) ≡ Some (name, rows) →
         D.failure_count device.new ≡ D.failure_count device.old → result ≢ Status.OutOfMemory →

@@ -51,14 +51,15 @@ pub(crate) enum FileCommand<'a> {
     },
 }
 
-/// Runs the command, and returns the exit status.
+/// Runs the command, which explains a fault of its texts if that is requested, and returns the exit status.
 pub(crate) fn run_files<D: Device, R: AllocGlobal + Threads + Sync>(
     rt: &R,
     device: &mut D,
     command: FileCommand<'_>,
+    explains: bool,
 ) -> Status
     ensures done { (h : List Event) → D.history device.old ≡ Some h → D.failure_count device.new ≡ D.failure_count device.old → result ≢ Status.OutOfMemory →
-        (new : List Event) × (D.history device.new ≡ Some new) × DoesCommand h new command.entry result }
+        (new : List Event) × (D.history device.new ≡ Some new) × DoesCommand h new command.entry explains result }
     ensures device_failed { result ≡ Status.DeviceFailed → D.failure_count device.old + 1 ≤ D.failure_count device.new }
     ensures unput { result ≡ Status.OutOfMemory → IsUnput (D.history device.old) (D.history device.new) }
 {
@@ -67,22 +68,22 @@ pub(crate) fn run_files<D: Device, R: AllocGlobal + Threads + Sync>(
             domain,
             problem,
             plan,
-        } => run_validation(rt, device, domain, problem, plan),
+        } => run_validation(rt, device, domain, problem, plan, explains),
         FileCommand::Check {
             domain,
             problem,
             cert,
-        } => run_planning_check(rt, device, domain, problem, cert),
-        FileCommand::CheckSas { sas, cert } => run_sas_check(rt, device, sas, cert),
+        } => run_planning_check(rt, device, domain, problem, cert, explains),
+        FileCommand::CheckSas { sas, cert } => run_sas_check(rt, device, sas, cert, explains),
         FileCommand::Optimal {
             domain,
             problem,
             plan,
             cert,
-        } => run_optimality(rt, device, domain, problem, plan, cert),
+        } => run_optimality(rt, device, domain, problem, plan, cert, explains),
         FileCommand::Translate { domain, problem } => {
-            run_translation(rt.alloc(), device, domain, problem)
+            run_translation(rt.alloc(), device, domain, problem, explains)
         }
-        FileCommand::MigrateCert { cert } => run_migration(rt.alloc(), device, cert),
+        FileCommand::MigrateCert { cert } => run_migration(rt.alloc(), device, cert, explains),
     }
 }

@@ -7,7 +7,7 @@ ghost use Rattle.clap.specs.Words.{kind_of};
 ghost use Rattle.clap.specs.declared.error.kind.ErrorKind.TheVariants.{OutOfMemory, ValueValidation};
 ghost use Rattle.owner_space.specs.declared.ties.Ties.{Ties as TiesOf};
 ghost use Rattle.optplan_options.specs.declared.options.Tables.{Tables as TablesOf};
-ghost use Rattle.optplan_command.specs.Options.{IsNumberIn, IsNumberOf, NamesTies, IsTiesOf, NamesTables, IsTablesOf, NamesReduction, IsReductionOf, is_same, is_taken, has_taken};
+ghost use Rattle.optplan_command.specs.Options.{IsNumberIn, IsNumberOf, NamesTies, IsTiesOf, NamesTables, IsTablesOf, NamesReduction, IsReductionOf, is_same, is_set, is_taken, has_taken};
 
 use clap::error::ErrorKind;
 use clap::{ArgMatches, Command, Error};
@@ -251,6 +251,13 @@ fn is_same(other: Option<&str>, name: &str) -> bool
         Some(other) => other == name,
         None => false,
     }
+}
+
+/// Returns whether an option without a value is among the arguments.
+pub(crate) fn is_set(words: &ArgMatches<'_>, option: &str) -> bool
+    ensures { result ≡ is_set (λ id. first_value (found_of words.now) id) option.now }
+{
+    is_same(words.get_str(option), "true")
 }
 
 /// Returns whether a file of this name is read, or is this other one that is written; `/dev/null` never is.

@@ -1,17 +1,22 @@
 //! The command that translates a planning task, over any device.
 
-ghost use Rattle.std.specs.Prelude.{◌≡◌, ◌≢◌, ◌≤◌, ◌+◌, ◌++◌, ℕ, List, Some, map, length, IfOk, IfErr};
+ghost use Rattle.std.specs.Prelude.{◌≡◌, ◌≢◌, ◌≤◌, ◌+◌, ◌++◌, ℕ, List, Some, map, length, IfOk, IfErr, option_map, string_bytes};
 ghost use Rattle.pddl_task.specs.Planning.{IsPlanningTask};
 ghost use Rattle.pddl.specs.Texts.{SpellTask};
 ghost use Rattle.sasfile_writer.specs.Written.{written};
 ghost use Rattle.translate.specs.Translated.{IsReadTask};
 ghost use Rattle.optplan_device.specs.Events.{Event, HasPut, Adds};
+ghost use Rattle.optplan_explain.specs.Explanations.{IsExplained};
+ghost use Rattle.optplan_explain.specs.Files.{task_files};
 ghost use Rattle.optplan_replies.specs.Faults.{fault_status};
 ghost use Rattle.optplan_replies.specs.Runs.{IsQuiet, IsUnput};
 ghost use Rattle.optplan_command.specs.Translating.{IsTranslationText, IsTranslationRefusal, Translates};
 
 use optplan_device::Device;
-use optplan_replies::{Fault, Status, put_text, read_task_files, report, task_fault};
+use optplan_explain::{Sources, refusal_with};
+use optplan_replies::{
+    Fault, Refusal, Status, put_text, read_task_files, report, report_refusal, task_fault,
+};
 use pddl::read_task;
 use pddl_task::Task;
 use sasfile::write_sas;
@@ -70,43 +75,69 @@ fn translation_of(alloc: Global, domain: &[u8], problem: &[u8]) -> Result<Vec<u8
     }
 }
 
-/// Prints the text, or reports the fault for which there is none, and returns the exit status.
+/// Returns the text of the translation of the task of these files, as `translation_of` does, and a fault with its
+/// explanation if that is requested.
+#[tactic(auto, using(crate::proofs::Translations::translation_refusal_reported))]
+fn explained_translation(
+    alloc: Global,
+    names: (&str, &str),
+    domain: &[u8],
+    problem: &[u8],
+    explains: bool,
+) -> Result<Vec<u8>, Refusal>
+    ensures text { IfOk result (λ text. IsTranslationText domain.now problem.now text.items) }
+    ensures refused { IfErr result (λ e. IsTranslationRefusal domain.now problem.now e.fault) }
+    ensures explained { IfErr result (λ e. IsExplained explains
+        (task_files names.entry.0.now domain.now names.entry.1.now problem.now) e.fault (option_map string_bytes e.explanation)) }
+{
+    match translation_of(alloc, domain, problem) {
+        Ok(text) => Ok(text),
+        Err(fault) => {
+            let sources = Sources::of_task(names.0, domain, names.1, problem);
+            Err(refusal_with(alloc, fault, explains, &sources))
+        }
+    }
+}
+
+/// Prints the text, or reports the fault for which there is none, with its explanation, and returns the exit status.
 pub(crate) fn reply_text<D: Device>(
     alloc: Global,
     device: &mut D,
-    answer: &Result<Vec<u8>, Fault>,
+    answer: &Result<Vec<u8>, Refusal>,
 ) -> Status
     ensures answered { result ≢ Status.OutOfMemory → result ≢ Status.DeviceFailed →
         IfOk answer.now (λ text. Adds (D.history device.old) (D.history device.new) (HasPut text.items)) }
     ensures status { result ≢ Status.OutOfMemory → result ≢ Status.DeviceFailed → IfOk answer.now (λ _. result ≡ Status.Done) }
     ensures counted { result ≡ Status.DeviceFailed → IfOk answer.now (λ _. D.failure_count device.old + 1 ≤ D.failure_count device.new) }
     ensures refused { (h : List Event) → D.history device.old ≡ Some h →
-        IfErr answer.now (λ e. (later : List Event) × (D.history device.new ≡ Some (h ++ later)) × IsQuiet later) }
-    ensures refusal { result ≢ Status.OutOfMemory → IfErr answer.now (λ e. result ≡ fault_status e) }
+        IfErr answer.now (λ e. (later : List Event) × (D.history device.new ≡ Some (h ++ later)) × IsQuiet (option_map string_bytes e.explanation) later) }
+    ensures refusal { result ≢ Status.OutOfMemory → IfErr answer.now (λ e. result ≡ fault_status e.fault) }
     ensures unput { result ≡ Status.OutOfMemory → IsUnput (D.history device.old) (D.history device.new) }
 {
     match answer {
         Ok(text) => put_text(alloc, device, text, Status::Done),
-        Err(fault) => report(alloc, device, fault),
+        Err(refusal) => report_refusal(alloc, device, refusal),
     }
 }
 
-/// Translates a planning task: reads the two files, and prints the text of its translation or reports the fault.
-/// Returns the exit status.
+/// Translates a planning task: reads the two files, and prints the text of its translation or reports the fault, with
+/// its explanation if that is requested. Returns the exit status.
 pub fn run_translation<D: Device>(
     alloc: Global,
     device: &mut D,
     domain: &str,
     problem: &str,
+    explains: bool,
 ) -> Status
     ensures done { (h : List Event) → D.history device.old ≡ Some h → D.failure_count device.new ≡ D.failure_count device.old → result ≢ Status.OutOfMemory →
-        (new : List Event) × (D.history device.new ≡ Some new) × Translates h new domain.now problem.now result }
+        (new : List Event) × (D.history device.new ≡ Some new) × Translates h new domain.now problem.now explains result }
     ensures device_failed { result ≡ Status.DeviceFailed → D.failure_count device.old + 1 ≤ D.failure_count device.new }
     ensures unput { result ≡ Status.OutOfMemory → IsUnput (D.history device.old) (D.history device.new) }
 {
     match read_task_files(alloc, device, domain, problem) {
-        Ok((domain, problem)) => {
-            let answer = translation_of(alloc, &domain, &problem);
+        Ok((domain_text, problem_text)) => {
+            let names = (domain, problem);
+            let answer = explained_translation(alloc, names, &domain_text, &problem_text, explains);
             reply_text(alloc, device, &answer)
         }
         Err(fault) => report(alloc, device, &fault),

@@ -12,7 +12,9 @@ ghost use Rattle.optplan_command.specs.Options.{AreChoicesOf, IsScheduleOf, AreS
 ghost use Rattle.optplan_command.specs.SolveWords.{HasRefusedValue};
 ghost use Rattle.optplan_command.specs.SolvingCommands.{name_of, Solved};
 
-use crate::options::{RefusedValue, number_for, own_file, reduction_for, tables_for, ties_for};
+use crate::options::{
+    RefusedValue, is_set, number_for, own_file, reduction_for, tables_for, ties_for,
+};
 use clap::{ArgMatches, Command, Error};
 use optplan_device::Device;
 use optplan_replies::{Runtime, Status};
@@ -88,6 +90,7 @@ fn settings_of<'a>(words: &ArgMatches<'a>) -> Result<Settings<'a>, RefusedValue<
         options,
         schedule,
         progress: words.get_flag("progress"),
+        explains: is_set(words, "explain"),
         plan,
         cert,
     })

@@ -1,7 +1,9 @@
 -- The judgement of whether a plan is optimal: the reply to the four texts, the arguments that request it, and what the
 -- command does.
-use Rattle.std.specs.Prelude.{◌≡◌, ℕ, true, List, [], ◌∷◌, ◌++◌, codes}
+use Rattle.std.specs.Prelude.{◌≡◌, ℕ, Bool, true, List, [], ◌∷◌, ◌++◌, codes}
 use Rattle.optplan_device.specs.Events.{Event, HasRead}
+use Rattle.optplan_explain.specs.Explanations.{IsExplained}
+use Rattle.optplan_explain.specs.Files.{ReadFiles, task_files, with_cert, with_plan}
 use Rattle.optplan_plan_texts.specs.Plain.{plain}
 use Rattle.optplan_replies.specs.declared.fault.Fault.{Fault}
 use Rattle.optplan_replies.specs.declared.fault.Fault.TheVariants as reported
@@ -47,9 +49,14 @@ pub record AskForOptimality (words : List (List ℕ)) (domain problem plan cert 
 abbrev pub reads : List ℕ → List ℕ → List ℕ → List ℕ → List ℕ → List ℕ → List ℕ → List ℕ → List Event
 reads domain d problem p plan l cert c = HasRead domain d ∷ HasRead problem p ∷ HasRead plan l ∷ HasRead cert c ∷ []
 
--- the four files are read, in this order; then the verdict's line is printed, or one of the texts is refused. The plan
--- may be as other tools write it: it is judged in its plain form
-pub record JudgesOptimality (old new : List Event) (domain problem plan cert : List ℕ) (status : Status) : Type 0 where
+-- the four files that a fault may name
+abbrev pub files : List ℕ → List ℕ → List ℕ → List ℕ → List ℕ → List ℕ → List ℕ → List ℕ → ReadFiles
+files domain d problem p plan l cert c = with_cert (with_plan (task_files domain d problem p) plan l) cert c
+
+-- the four files are read, in this order; then the verdict's line is printed, or one of the texts is refused, and the
+-- fault explained if that is requested. The plan may be as other tools write it: it is judged in its plain form, and
+-- shown as it is
+pub record JudgesOptimality (old new : List Event) (domain problem plan cert : List ℕ) (explains : Bool) (status : Status) : Type 0 where
   pub domain_text : List ℕ
   pub problem_text : List ℕ
   pub plan_text : List ℕ
@@ -57,4 +64,5 @@ pub record JudgesOptimality (old new : List Event) (domain problem plan cert : L
   pub later : List Event
   pub events : new ≡ old ++ (reads domain domain_text problem problem_text plan plan_text cert cert_text ++ later)
   pub follows : Follows (IsOptimalityReply domain_text problem_text (plain plan_text) cert_text)
-      (IsOptimalityReport domain_text problem_text (plain plan_text) cert_text) later status
+      (IsOptimalityReport domain_text problem_text (plain plan_text) cert_text)
+      (IsExplained explains (files domain domain_text problem problem_text plan plan_text cert cert_text)) later status

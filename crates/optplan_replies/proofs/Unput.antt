@@ -1,10 +1,10 @@
 -- Between which histories of a device nothing was written to standard output.
-use Rattle.std.proofs.Common.{◌≡◌, List, [], ◌∷◌, ◌++◌, sym, ap, ◌∙◌, append_assoc}
-use Rattle.std.specs.Prelude.{Option, Some}
+use Rattle.std.proofs.Common.{◌≡◌, ℕ, List, [], ◌∷◌, ◌++◌, sym, ap, subst, ◌∙◌, append_assoc}
+use Rattle.std.specs.Prelude.{Option, Some, None}
 use Rattle.std.proofs.lemmas.List.{append-nil}
 use Rattle.std.specs.Option.{option_map}
 use Rattle.optplan_device.specs.Events.{Event, HasRead, HasWritten, HasPut, HasReported, Adds}
-use Rattle.optplan_replies.specs.Runs.{IsQuiet, PutsNothing, IsUnput}
+use Rattle.optplan_replies.specs.Runs.{HasExplained, IsQuiet, PutsNothing, IsUnput}
 
 -- events one after another
 puts_nothing_then : (es fs : List Event) → PutsNothing es → PutsNothing fs → PutsNothing (es ++ fs)
@@ -14,14 +14,19 @@ puts_nothing_then (HasWritten name bytes ∷ es) fs first second = puts_nothing_
 puts_nothing_then (HasPut bytes ∷ es) fs first second = elim first [ ]
 puts_nothing_then (HasReported bytes ∷ es) fs first second = puts_nothing_then es fs first second
 
--- at most one report
-pub quiet_puts_nothing : (es : List Event) → IsQuiet es → PutsNothing es
-quiet_puts_nothing [] quiet = tt
-quiet_puts_nothing (HasReported bytes ∷ []) quiet = tt
-quiet_puts_nothing (HasReported bytes ∷ e ∷ es) quiet = elim quiet [ ]
-quiet_puts_nothing (HasRead name bytes ∷ es) quiet = elim quiet [ ]
-quiet_puts_nothing (HasWritten name bytes ∷ es) quiet = elim quiet [ ]
-quiet_puts_nothing (HasPut bytes ∷ es) quiet = elim quiet [ ]
+-- an explanation, or none
+explained_puts_nothing : (explanation : Option (List ℕ)) (es : List Event) → HasExplained explanation es → PutsNothing es
+explained_puts_nothing explanation [] explained = tt
+explained_puts_nothing None (e ∷ es) explained = elim explained [ ]
+explained_puts_nothing (Some text) (e ∷ es) explained = subst PutsNothing (sym explained) tt
+
+-- at most one report and its explanation
+pub quiet_puts_nothing : (explanation : Option (List ℕ)) (es : List Event) → IsQuiet explanation es → PutsNothing es
+quiet_puts_nothing explanation [] quiet = tt
+quiet_puts_nothing explanation (HasReported line ∷ es) quiet = explained_puts_nothing explanation es quiet
+quiet_puts_nothing explanation (HasRead name bytes ∷ es) quiet = elim quiet [ ]
+quiet_puts_nothing explanation (HasWritten name bytes ∷ es) quiet = elim quiet [ ]
+quiet_puts_nothing explanation (HasPut bytes ∷ es) quiet = elim quiet [ ]
 
 -- the same history
 pub unput_same : (old new : Option (List Event)) → new ≡ old → IsUnput old new
@@ -32,9 +37,9 @@ pub unput_added : (old new : Option (List Event)) (e : Event) → PutsNothing (e
 unput_added old new e none adds h is = (e ∷ [], adds ∙ ap (λ (o : Option (List Event)). option_map (λ es. es ++ e ∷ []) o) is, none)
 
 -- more events, which are none of standard output
-pub unput_more : (old new : Option (List Event))
-    → ((h : List Event) → old ≡ Some h → (later : List Event) × (new ≡ Some (h ++ later)) × IsQuiet later) → IsUnput old new
-unput_more old new told h is = let t = told h is in (t.0, t.1, quiet_puts_nothing t.0 t.2)
+pub unput_more : (explanation : Option (List ℕ)) (old new : Option (List Event))
+    → ((h : List Event) → old ≡ Some h → (later : List Event) × (new ≡ Some (h ++ later)) × IsQuiet explanation later) → IsUnput old new
+unput_more explanation old new told h is = let t = told h is in (t.0, t.1, quiet_puts_nothing explanation t.0 t.2)
 
 -- one call after another
 pub unput_then : (old mid new : Option (List Event)) → IsUnput old mid → IsUnput mid new → IsUnput old new

@@ -1,12 +1,13 @@
 //! The I/O that all commands share: reading files, printing an answer, and reporting a fault.
 
-ghost use Rattle.std.specs.Prelude.{◌≡◌, ◌≢◌, ◌≤◌, ◌+◌, ◌∷◌, [], ◌++◌, ◌⊎◌, List, Some, IfOk, IfErr, OnOk, OnErr, string_bytes};
+ghost use Rattle.std.specs.Prelude.{◌≡◌, ◌≢◌, ◌≤◌, ◌+◌, ◌∷◌, [], ◌++◌, ◌⊎◌, List, Some, None, IfOk, IfErr, OnOk, OnErr, option_map, string_bytes};
 ghost use Rattle.optplan_device.specs.Events.{Event, HasRead, HasPut, Adds};
 ghost use Rattle.optplan_replies.specs.Faults.{fault_status};
 ghost use Rattle.optplan_replies.specs.declared.fault.Fault.TheVariants.{OutOfMemory, CannotRead, CannotWrite};
 ghost use Rattle.optplan_replies.specs.Runs.{IsDeviceFault, IsQuiet, task_reads, IsUnput};
 
 use crate::fault::{Fault, FileWord};
+use crate::refusal::Refusal;
 use crate::status::Status;
 use optplan_device::{Device, DeviceFault};
 use std::alloc::{AllocError, Global};
@@ -74,24 +75,74 @@ fn fault_line(alloc: Global, fault: &Fault) -> Result<String, AllocError> {
     format!(in alloc; "optplan: {fault}\n")
 }
 
-/// Reports a fault on standard error and returns the fault's exit status. If there is no memory for the fault's line,
-/// line and status are those for `OutOfMemory`. A failure to write the line is ignored.
-pub fn report<D: Device>(alloc: Global, device: &mut D, fault: &Fault) -> Status
+/// Writes the line of a fault to standard error, and after it the explanation, if there is one and the line was
+/// written: there is no explanation without the line. A failure to write is ignored.
+#[tactic(auto, using(crate::proofs::Reporting::reporting))]
+fn write_report<D: Device>(device: &mut D, line: &[u8], explanation: Option<&str>)
     ensures told { (h : List Event) → D.history device.old ≡ Some h →
-        (later : List Event) × (D.history device.new ≡ Some (h ++ later)) × IsQuiet later }
+        (later : List Event) × (D.history device.new ≡ Some (h ++ later)) × IsQuiet (option_map (λ t. t.now) explanation.entry) later }
+    ensures counted { D.failure_count device.old ≤ D.failure_count device.new }
+    ensures unput { IsUnput (D.history device.old) (D.history device.new) }
+{
+    let Ok(()) = device.err(line) else {
+        return;
+    };
+    if let Some(explanation) = explanation {
+        let _ = device.err(explanation.as_bytes());
+    }
+}
+
+/// Reports a fault on standard error, with an explanation after its line if there is one, and returns the fault's exit
+/// status. If there is no memory for the fault's line, line and status are those for `OutOfMemory`, without an
+/// explanation. A failure to write is ignored.
+#[tactic(auto, using(crate::proofs::Reporting::told_without))]
+fn report_with<D: Device>(
+    alloc: Global,
+    device: &mut D,
+    fault: &Fault,
+    explanation: Option<&str>,
+) -> Status
+    ensures told { (h : List Event) → D.history device.old ≡ Some h →
+        (later : List Event) × (D.history device.new ≡ Some (h ++ later)) × IsQuiet (option_map (λ t. t.now) explanation.entry) later }
     ensures counted { D.failure_count device.old ≤ D.failure_count device.new }
     ensures status { result ≢ Status.OutOfMemory → result ≡ fault_status fault.now }
     ensures unput { IsUnput (D.history device.old) (D.history device.new) }
 {
     match fault_line(alloc, fault) {
         Ok(line) => {
-            let _ = device.err(line.as_bytes());
+            write_report(device, line.as_bytes(), explanation);
             fault.status()
         }
         Err(_) => {
-            let _ = device.err(OUT_OF_MEMORY_LINE);
+            write_report(device, OUT_OF_MEMORY_LINE, None);
             Status::OutOfMemory
         }
+    }
+}
+
+/// Reports a fault on standard error and returns the fault's exit status. If there is no memory for the fault's line,
+/// line and status are those for `OutOfMemory`. A failure to write the line is ignored.
+pub fn report<D: Device>(alloc: Global, device: &mut D, fault: &Fault) -> Status
+    ensures told { (h : List Event) → D.history device.old ≡ Some h →
+        (later : List Event) × (D.history device.new ≡ Some (h ++ later)) × IsQuiet None later }
+    ensures counted { D.failure_count device.old ≤ D.failure_count device.new }
+    ensures status { result ≢ Status.OutOfMemory → result ≡ fault_status fault.now }
+    ensures unput { IsUnput (D.history device.old) (D.history device.new) }
+{
+    report_with(alloc, device, fault, None)
+}
+
+/// Reports a fault as `report` does, and then its explanation, if there is one. A failure to write it is ignored.
+pub fn report_refusal<D: Device>(alloc: Global, device: &mut D, refusal: &Refusal) -> Status
+    ensures told { (h : List Event) → D.history device.old ≡ Some h →
+        (later : List Event) × (D.history device.new ≡ Some (h ++ later)) × IsQuiet (option_map string_bytes refusal.now.explanation) later }
+    ensures counted { D.failure_count device.old ≤ D.failure_count device.new }
+    ensures status { result ≢ Status.OutOfMemory → result ≡ fault_status refusal.now.fault }
+    ensures unput { IsUnput (D.history device.old) (D.history device.new) }
+{
+    match &refusal.explanation {
+        Some(text) => report_with(alloc, device, &refusal.fault, Some(text.as_str())),
+        None => report_with(alloc, device, &refusal.fault, None),
     }
 }
 
@@ -109,11 +160,12 @@ pub fn put_text<D: Device>(alloc: Global, device: &mut D, text: &[u8], status: S
     }
 }
 
-/// Prints the answer for the texts of a command's files, or reports their fault, and returns the exit status.
+/// Prints the answer for the texts of a command's files, or reports their fault with its explanation, and returns the
+/// exit status.
 pub fn reply<D: Device>(
     alloc: Global,
     device: &mut D,
-    answer: &Result<(String, Status), Fault>,
+    answer: &Result<(String, Status), Refusal>,
 ) -> Status
     ensures answered { result ≢ Status.OutOfMemory → result ≢ Status.DeviceFailed →
         IfOk answer.now (λ r. Adds (D.history device.old) (D.history device.new) (HasPut (string_bytes r.0))) }
@@ -121,12 +173,12 @@ pub fn reply<D: Device>(
     ensures counted { result ≡ Status.DeviceFailed →
         IfOk answer.now (λ r. r.1 ≢ Status.DeviceFailed → D.failure_count device.old + 1 ≤ D.failure_count device.new) }
     ensures refused { (h : List Event) → D.history device.old ≡ Some h →
-        IfErr answer.now (λ e. (later : List Event) × (D.history device.new ≡ Some (h ++ later)) × IsQuiet later) }
-    ensures refusal { result ≢ Status.OutOfMemory → IfErr answer.now (λ e. result ≡ fault_status e) }
+        IfErr answer.now (λ e. (later : List Event) × (D.history device.new ≡ Some (h ++ later)) × IsQuiet (option_map string_bytes e.explanation) later) }
+    ensures refusal { result ≢ Status.OutOfMemory → IfErr answer.now (λ e. result ≡ fault_status e.fault) }
     ensures unput { result ≡ Status.OutOfMemory → IfOk answer.now (λ r. r.1 ≢ Status.OutOfMemory) → IsUnput (D.history device.old) (D.history device.new) }
 {
     match answer {
         Ok((line, status)) => put_text(alloc, device, line.as_bytes(), *status),
-        Err(fault) => report(alloc, device, fault),
+        Err(refusal) => report_refusal(alloc, device, refusal),
     }
 }

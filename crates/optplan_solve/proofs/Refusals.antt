@@ -1,5 +1,5 @@
 -- Refusals are no failures of the device.
-use Rattle.std.proofs.Common.{◌≢◌, ℕ, List, ap, ◌∙◌, sym}
+use Rattle.std.proofs.Common.{◌≡◌, ◌≢◌, ◌⊎◌, ℕ, List, inl, inr, ap, ◌∙◌, sym, subst}
 use Rattle.fdr.specs.Tasks.{FiniteDomainTask}
 use Rattle.optplan_options.specs.Choices.{Choices}
 use Rattle.optplan_search.specs.declared.fault.SearchFault.{SearchFault}
@@ -67,3 +67,13 @@ sas_search_report_status sas choices schedule e r = λ failed. search_status r.f
 pub memory_refused : (choices : Choices) (schedule : Schedule) (task : FiniteDomainTask) → IsRefusedBy choices schedule task search.OutOfMemory
 memory_refused choices (Threads watch) task = tt
 memory_refused choices (Drawn seed) task = tt
+
+-- a refusal's fault is that of the texts, or want of memory, with which any texts may be refused
+pub text_refusal_reported : (domain problem : List ℕ) (fault e : Fault) → (e ≡ fault) ⊎ (e ≡ OutOfMemory) → IsTextRefusal domain problem fault → IsTextRefusal domain problem e
+text_refusal_reported domain problem fault e (inl same) refused = subst (IsTextRefusal domain problem) (sym same) refused
+text_refusal_reported domain problem fault e (inr memory) refused = subst (IsTextRefusal domain problem) (sym memory) tt
+
+-- a refusal's fault is that of the texts, or want of memory, with which any texts may be refused
+pub sas_text_refusal_reported : (sas : List ℕ) (fault e : Fault) → (e ≡ fault) ⊎ (e ≡ OutOfMemory) → IsSasTextRefusal sas fault → IsSasTextRefusal sas e
+sas_text_refusal_reported sas fault e (inl same) refused = subst (IsSasTextRefusal sas) (sym same) refused
+sas_text_refusal_reported sas fault e (inr memory) refused = subst (IsSasTextRefusal sas) (sym memory) tt

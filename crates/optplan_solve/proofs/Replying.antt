@@ -1,6 +1,6 @@
 -- How a solve command replies to the texts that it has read.
 use Rattle.std.proofs.Common.{◌≡◌, ◌≢◌, ◌≤◌, ◌+◌, ℕ, List, [], ◌∷◌, ◌++◌, refl, sym, ap, ◌∙◌, inl, inr, append_assoc}
-use Rattle.std.specs.Prelude.{Option, Some, Result, Ok, Err, IfOk, IfErr, OnErr}
+use Rattle.std.specs.Prelude.{Option, Some, None, Result, Ok, Err, IfOk, IfErr, OnErr}
 use Rattle.std.specs.Option.{option_map}
 use Rattle.cert_text.specs.Spelling.{spelling}
 use Rattle.optplan_device.specs.Events.{Event, HasPut, Adds}
@@ -26,7 +26,7 @@ pub replied : {P : Type 0} (Answers : Answer (WrittenPlan P) → Type 0) (Refuse
     (new : Option (List Event)) (h : List Event) (status : Status)
     → IfOk answer Answers → IfErr answer Refuses
     → IfOk answer (λ a. new ≡ Some (h ++ outputs files a)) → IfOk answer (λ a. status ≡ answer_status a)
-    → IfErr answer (λ e. (later : List Event) × (new ≡ Some (h ++ later)) × IsQuiet later) → IfErr answer (λ e. status ≡ fault_status e)
+    → IfErr answer (λ e. (later : List Event) × (new ≡ Some (h ++ later)) × IsQuiet None later) → IfErr answer (λ e. status ≡ fault_status e)
     → (later : List Event) × (new ≡ Some (h ++ later)) × Replies Answers Refuses files later status
 replied Answers Refuses (Ok a) files new h status answered refused put status_is reported fault_is =
     (outputs files a, put, inl (a, answered, refl, status_is))

@@ -105,15 +105,16 @@ abbrev pub IsOutputFault : ℕ → ℕ → Fault → Type 0
 IsOutputFault old new e = (fault_status e ≡ exit.OutOfMemory) ⊎ ((fault_status e ≡ exit.DeviceFailed) × (old + 1 ≤ new))
 
 -- the events after the files are created, and the exit status: an answer is written and printed, or the search is
--- refused
+-- refused, which is never explained
 abbrev pub Replies : {P : Type 0} → (Answer (WrittenPlan P) → Type 0) → (Fault → Type 0) → OutputFiles → List Event → Status → Type 0
 Replies {P = P} IsAnswer IsRefusal files later status =
     ((answer : Answer (WrittenPlan P)) × IsAnswer answer × (later ≡ outputs files answer) × (status ≡ answer_status answer))
-    ⊎ ((e : Fault) × IsRefusal e × (status ≡ fault_status e) × IsQuiet later)
+    ⊎ ((e : Fault) × IsRefusal e × (status ≡ fault_status e) × IsQuiet None later)
 
--- the events after the reading of the files of a task, and the exit status: a text is refused, and no file is changed;
--- or the requested files are created or emptied, and then it is replied
-abbrev pub Concludes : {P : Type 0} → (Fault → Type 0) → (Answer (WrittenPlan P) → Type 0) → (Fault → Type 0) → OutputFiles → List Event → Status → Type 0
-Concludes IsTextRefusal IsAnswer IsRefusal files later status =
-    ((e : Fault) × IsTextRefusal e × (status ≡ fault_status e) × IsQuiet later)
+-- the events after the reading of the files of a task, and the exit status: a text is refused, with an explanation or
+-- without one, and no file is changed; or the requested files are created or emptied, and then it is replied
+abbrev pub Concludes : {P : Type 0} → (Fault → Type 0) → (Fault → Option (List ℕ) → Type 0) → (Answer (WrittenPlan P) → Type 0) → (Fault → Type 0)
+    → OutputFiles → List Event → Status → Type 0
+Concludes IsTextRefusal IsExplained IsAnswer IsRefusal files later status =
+    ((e : Fault) × (explanation : Option (List ℕ)) × IsTextRefusal e × IsExplained e explanation × (status ≡ fault_status e) × IsQuiet explanation later)
     ⊎ ((rest : List Event) × (later ≡ creations files ++ rest) × Replies IsAnswer IsRefusal files rest status)

@@ -1,13 +1,14 @@
 //! The command that solves a finite-domain task, over any device.
 
-ghost use Rattle.std.specs.Prelude.{◌≡◌, ◌≢◌, ◌≤◌, ◌+◌, ◌++◌, ℕ, List, Some, IfOk, IfErr};
+ghost use Rattle.std.specs.Prelude.{◌≡◌, ◌≢◌, ◌≤◌, ◌+◌, ◌++◌, ℕ, List, Some, IfOk, IfErr, option_map, string_bytes};
 ghost use Rattle.sasfile_reader.specs.SasTexts.{SpellsTask};
 ghost use Rattle.optplan_device.specs.Events.{Event};
+ghost use Rattle.optplan_explain.specs.Explanations.{IsExplained};
 ghost use Rattle.optplan_replies.specs.Runs.{IsUnput};
 ghost use Rattle.optplan_sas.specs.SasAnswers.{IsSasAnswer};
 ghost use Rattle.optplan_solve.specs.Outputs.{files_of, creations, Replies, Concludes};
 ghost use Rattle.optplan_solve.specs.Schedules.{EndsBy, IsRefusedBy};
-ghost use Rattle.optplan_solve.specs.SasSolving.{IsSasTextRefusal, IsSasSearchReport, SolvesSas};
+ghost use Rattle.optplan_solve.specs.SasSolving.{files, IsSasTextRefusal, IsSasSearchReport, SolvesSas};
 
 use crate::clock::start_of;
 use crate::faults::search_fault;
@@ -16,21 +17,30 @@ use crate::settings::{Schedule, Settings};
 use crate::watcher::{Narrator, Watcher};
 use fdr::FdrTask;
 use optplan_device::Device;
-use optplan_replies::{Fault, FileWord, Runtime, Status, read_file, report};
+use optplan_explain::{Sources, refusal_with};
+use optplan_replies::{
+    Fault, FileWord, Refusal, Runtime, Status, read_file, report, report_refusal,
+};
 use optplan_sas::{SasAnswer, simulate_task, solve_task};
 use optplan_solver::SearchFault;
 use sasfile::read_sas;
 use std::alloc::Global;
 use std::time::Instant;
 
-/// Returns the task that the text spells. Fails with the first fault of the text, or if allocation fails.
-fn task_in(alloc: Global, sas: &[u8]) -> Result<FdrTask, Fault>
+/// Returns the task that the text of a file spells. Fails with the first fault of the text, or if allocation fails;
+/// with the fault's explanation if that is requested.
+#[tactic(auto, using(crate::proofs::Refusals::sas_text_refusal_reported))]
+fn task_in(alloc: Global, name: &str, sas: &[u8], explains: bool) -> Result<FdrTask, Refusal>
     ensures spelled { IfOk result (SpellsTask sas.now) }
-    ensures refused { IfErr result (IsSasTextRefusal sas.now) }
+    ensures refused { IfErr result (λ e. IsSasTextRefusal sas.now e.fault) }
+    ensures explained { IfErr result (λ e. IsExplained explains (files name.now sas.now) e.fault (option_map string_bytes e.explanation)) }
 {
     match read_sas(alloc, sas) {
         Ok(task) => Ok(task),
-        Err(fault) => Err(Fault::from(fault)),
+        Err(fault) => {
+            let sources = Sources::none().with_sas(name, sas);
+            Err(refusal_with(alloc, Fault::from(fault), explains, &sources))
+        }
     }
 }
 
@@ -103,33 +113,36 @@ fn solve_read<D: Device, R: Runtime>(
     }
 }
 
-/// Solves the task that the text spells, and returns the exit status. The text is dropped before the search.
+/// Solves the task that the text of this file spells, and returns the exit status. The text is dropped before the
+/// search.
 fn solve_text<D: Device, R: Runtime>(
     rt: &R,
     device: &mut D,
+    name: &str,
     sas: Vec<u8>,
     settings: &Settings<'_>,
 ) -> Status
     ensures done { (h : List Event) → D.history device.old ≡ Some h → D.failure_count device.new ≡ D.failure_count device.old → result ≢ Status.OutOfMemory →
         (later : List Event) × (D.history device.new ≡ Some (h ++ later))
-        × Concludes (IsSasTextRefusal sas.items) (IsSasAnswer settings.now.options.certificate sas.items (EndsBy settings.now.options settings.now.schedule))
+        × Concludes (IsSasTextRefusal sas.items) (IsExplained settings.now.explains (files name.now sas.items))
+        (IsSasAnswer settings.now.options.certificate sas.items (EndsBy settings.now.options settings.now.schedule))
         (IsSasSearchReport sas.items settings.now.options settings.now.schedule) (files_of settings.now) later result }
     ensures device_failed { result ≡ Status.DeviceFailed → D.failure_count device.old + 1 ≤ D.failure_count device.new }
     ensures unput { result ≡ Status.OutOfMemory → IsUnput (D.history device.old) (D.history device.new) }
 {
     let start = start_of(rt, settings);
-    let task = task_in(rt.alloc(), &sas);
+    let task = task_in(rt.alloc(), name, &sas, settings.explains);
     drop(sas);
     match task {
         Ok(task) => solve_read(rt, device, &task, settings, start),
-        Err(fault) => report(rt.alloc(), device, &fault),
+        Err(refusal) => report_refusal(rt.alloc(), device, &refusal),
     }
 }
 
 /// Solves a finite-domain task with threads, or by random steps from a seed: reads the file; if it spells a task,
 /// creates or empties the files for the certificate and the plan, if requested; then searches, writes the certificate
 /// and the plan, and prints the plan, `unsolvable`, or `limit` with a bound and the best plan so far; or reports a
-/// fault.
+/// fault, that of the text with its explanation if the settings request one.
 ///
 /// Returns the exit status: `Done` with a cheapest plan, `Unsolvable` if there is none, `Limited` at a limit, or the
 /// fault's status. The file for the plan stays empty if there is none. If a file or standard output cannot be written,
@@ -142,12 +155,12 @@ pub fn run_solve_sas<D: Device, R: Runtime>(
 ) -> Status
     ensures done { (h : List Event) → D.history device.old ≡ Some h → D.failure_count device.new ≡ D.failure_count device.old → result ≢ Status.OutOfMemory →
         (new : List Event) × (D.history device.new ≡ Some new) ×
-        SolvesSas h new sas.now settings.now.options settings.now.schedule (files_of settings.now) result }
+        SolvesSas h new sas.now settings.now.options settings.now.schedule (files_of settings.now) settings.now.explains result }
     ensures device_failed { result ≡ Status.DeviceFailed → D.failure_count device.old + 1 ≤ D.failure_count device.new }
     ensures unput { result ≡ Status.OutOfMemory → IsUnput (D.history device.old) (D.history device.new) }
 {
     match read_file(rt.alloc(), device, sas, FileWord::Sas) {
-        Ok(sas) => solve_text(rt, device, sas, settings),
+        Ok(text) => solve_text(rt, device, sas, text, settings),
         Err(fault) => report(rt.alloc(), device, &fault),
     }
 }

@@ -31,6 +31,8 @@ pub struct Settings<'a> {
     pub schedule: Schedule,
     /// Whether the progress of the search is reported on standard error.
     pub progress: bool,
+    /// Whether a fault of the texts is explained on standard error.
+    pub explains: bool,
     /// The name of the file to which the plan is written, if requested.
     pub plan: Option<&'a str>,
     /// The name of the file to which the certificate is written, if requested; it is written only if the options

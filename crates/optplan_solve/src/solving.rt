@@ -1,7 +1,9 @@
 //! The command that solves a planning task, over any device.
 
-ghost use Rattle.std.specs.Prelude.{◌≡◌, ◌≢◌, ◌≤◌, ◌+◌, ◌++◌, ℕ, List, Some, IfOk, IfErr};
+ghost use Rattle.std.specs.Prelude.{◌≡◌, ◌≢◌, ◌≤◌, ◌+◌, ◌++◌, ℕ, List, Some, IfOk, IfErr, option_map, string_bytes};
 ghost use Rattle.optplan_device.specs.Events.{Event};
+ghost use Rattle.optplan_explain.specs.Explanations.{IsExplained};
+ghost use Rattle.optplan_explain.specs.Files.{task_files};
 ghost use Rattle.optplan_replies.specs.Runs.{IsUnput};
 ghost use Rattle.optplan_pddl.specs.Answers.{IsPlanningAnswer, IsPrepareRefusal, IsSearchRefusal};
 ghost use Rattle.optplan_pddl.specs.Prepared.{IsPrepared};
@@ -15,8 +17,11 @@ use crate::outputs::{create_files, reply_answer};
 use crate::settings::{Schedule, Settings};
 use crate::watcher::{Narrator, Watcher};
 use optplan_device::Device;
+use optplan_explain::{Sources, refusal_with};
 use optplan_pddl::{PlanningAnswer, PrepareFault, Prepared, prepare};
-use optplan_replies::{Fault, Runtime, Status, read_task_files, report, task_fault};
+use optplan_replies::{
+    Fault, Refusal, Runtime, Status, read_task_files, report, report_refusal, task_fault,
+};
 use optplan_solver::SearchFault;
 use std::alloc::Global;
 use std::time::Instant;
@@ -35,20 +40,36 @@ fn text_fault(alloc: Global, fault: PrepareFault, domain: &[u8], problem: &[u8])
     }
 }
 
+/// The names of the two files of a planning task.
+#[derive(Clone, Copy)]
+struct TaskNames<'a> {
+    domain: &'a str,
+    problem: &'a str,
+}
+
 /// Returns the task that the texts spell, prepared for a search. Fails with the first fault of the texts, if the task
-/// or its translation exceeds a limit, or if allocation fails.
+/// or its translation exceeds a limit, or if allocation fails; with the fault's explanation if that is requested.
+#[tactic(auto, using(crate::proofs::Refusals::text_refusal_reported))]
 fn prepared(
     alloc: Global,
+    names: TaskNames<'_>,
     domain: &[u8],
     problem: &[u8],
     certificate: bool,
-) -> Result<Prepared, Fault>
+    explains: bool,
+) -> Result<Prepared, Refusal>
     ensures prepared { IfOk result (IsPrepared certificate domain.now problem.now) }
-    ensures refused { IfErr result (IsTextRefusal domain.now problem.now) }
+    ensures refused { IfErr result (λ e. IsTextRefusal domain.now problem.now e.fault) }
+    ensures explained { IfErr result (λ e. IsExplained explains
+        (task_files names.entry.domain.now domain.now names.entry.problem.now problem.now) e.fault (option_map string_bytes e.explanation)) }
 {
     match prepare(alloc, domain, problem, certificate) {
         Ok(prepared) => Ok(prepared),
-        Err(fault) => Err(text_fault(alloc, fault, domain, problem)),
+        Err(fault) => {
+            let fault = text_fault(alloc, fault, domain, problem);
+            let sources = Sources::of_task(names.domain, domain, names.problem, problem);
+            Err(refusal_with(alloc, fault, explains, &sources))
+        }
     }
 }
 
@@ -125,10 +146,12 @@ fn solve_prepared<D: Device, R: Runtime>(
     }
 }
 
-/// Solves the task that the texts spell, and returns the exit status. The texts are dropped before the search.
+/// Solves the task that the texts of these files spell, and returns the exit status. The texts are dropped before the
+/// search.
 fn solve_texts<D: Device, R: Runtime>(
     rt: &R,
     device: &mut D,
+    names: TaskNames<'_>,
     domain: Vec<u8>,
     problem: Vec<u8>,
     settings: &Settings<'_>,
@@ -136,29 +159,27 @@ fn solve_texts<D: Device, R: Runtime>(
     ensures done { (h : List Event) → D.history device.old ≡ Some h → D.failure_count device.new ≡ D.failure_count device.old → result ≢ Status.OutOfMemory →
         (later : List Event) × (D.history device.new ≡ Some (h ++ later))
         × Concludes (IsTextRefusal domain.items problem.items)
+        (IsExplained settings.now.explains (task_files names.entry.domain.now domain.items names.entry.problem.now problem.items))
         (IsPlanningAnswer settings.now.options.certificate domain.items problem.items (EndsBy settings.now.options settings.now.schedule))
         (IsSearchReport domain.items problem.items settings.now.options settings.now.schedule) (files_of settings.now) later result }
     ensures device_failed { result ≡ Status.DeviceFailed → D.failure_count device.old + 1 ≤ D.failure_count device.new }
     ensures unput { result ≡ Status.OutOfMemory → IsUnput (D.history device.old) (D.history device.new) }
 {
     let start = start_of(rt, settings);
-    let prepared = prepared(
-        rt.alloc(),
-        &domain,
-        &problem,
-        settings.options.certificate(),
-    );
+    let certificate = settings.options.certificate();
+    let explains = settings.explains;
+    let prepared = prepared(rt.alloc(), names, &domain, &problem, certificate, explains);
     drop((domain, problem));
     match prepared {
         Ok(prepared) => solve_prepared(rt, device, prepared, settings, start),
-        Err(fault) => report(rt.alloc(), device, &fault),
+        Err(refusal) => report_refusal(rt.alloc(), device, &refusal),
     }
 }
 
 /// Solves a planning task with threads, or by random steps from a seed: reads the two files; if they spell a task,
 /// creates or empties the files for the certificate and the plan, if requested; then searches, writes the certificate
 /// and the plan, and prints the plan, `unsolvable`, or `limit` with a bound and the best plan so far; or reports a
-/// fault.
+/// fault, that of a text with its explanation if the settings request one.
 ///
 /// Returns the exit status: `Done` with a cheapest plan, `Unsolvable` if there is none, `Limited` at a limit, or the
 /// fault's status. The file for the plan stays empty if there is none. If a file or standard output cannot be written,
@@ -172,12 +193,15 @@ pub fn run_solve<D: Device, R: Runtime>(
 ) -> Status
     ensures done { (h : List Event) → D.history device.old ≡ Some h → D.failure_count device.new ≡ D.failure_count device.old → result ≢ Status.OutOfMemory →
         (new : List Event) × (D.history device.new ≡ Some new)
-        × Solves h new domain.now problem.now settings.now.options settings.now.schedule (files_of settings.now) result }
+        × Solves h new domain.now problem.now settings.now.options settings.now.schedule (files_of settings.now) settings.now.explains result }
     ensures device_failed { result ≡ Status.DeviceFailed → D.failure_count device.old + 1 ≤ D.failure_count device.new }
     ensures unput { result ≡ Status.OutOfMemory → IsUnput (D.history device.old) (D.history device.new) }
 {
     match read_task_files(rt.alloc(), device, domain, problem) {
-        Ok((domain, problem)) => solve_texts(rt, device, domain, problem, settings),
+        Ok((domain_text, problem_text)) => {
+            let names = TaskNames { domain, problem };
+            solve_texts(rt, device, names, domain_text, problem_text, settings)
+        }
         Err(fault) => report(rt.alloc(), device, &fault),
     }
 }

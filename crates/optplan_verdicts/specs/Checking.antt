@@ -1,12 +1,14 @@
 -- The check of a certificate for a planning task: the answer for the three texts, the arguments that request it, and
 -- what the command does.
-use Rattle.std.specs.Prelude.{◌≡◌, ℕ, true, List, [], ◌∷◌, ◌++◌, codes}
+use Rattle.std.specs.Prelude.{◌≡◌, ℕ, Bool, true, List, [], ◌∷◌, ◌++◌, codes}
 use Rattle.optplan_device.specs.Events.{Event}
 use Rattle.checker.specs.Judgements.{verdict_text}
 use Rattle.checker.specs.Answers as checked
 use Rattle.checker.specs.declared.verdict.PlanningVerdict.{PlanningVerdict}
 use Rattle.checker.specs.declared.verdict.PlanningVerdict.TheVariants.{Accepted, Rejected}
 use Rattle.checker.specs.declared.fault.PlanningCheckFault.TheVariants as check
+use Rattle.optplan_explain.specs.Explanations.{IsExplained}
+use Rattle.optplan_explain.specs.Files.{ReadFiles, task_files, with_cert}
 use Rattle.optplan_replies.specs.declared.status.Status.{Status}
 use Rattle.optplan_replies.specs.declared.status.Status.TheVariants as exit
 use Rattle.optplan_replies.specs.Reports.{IsTaskReport}
@@ -48,11 +50,17 @@ pub record AskForCheck (words : List (List ℕ)) (domain problem cert : List ℕ
   pub problem_is : is_operand problem ≡ true
   pub cert_is : is_operand cert ≡ true
 
--- the three files are read, in this order; then the verdict's line is printed, or one of the texts is refused
-pub record Checks (old new : List Event) (domain problem cert : List ℕ) (status : Status) : Type 0 where
+-- the three files that a fault may name
+abbrev pub files : List ℕ → List ℕ → List ℕ → List ℕ → List ℕ → List ℕ → ReadFiles
+files domain d problem p cert c = with_cert (task_files domain d problem p) cert c
+
+-- the three files are read, in this order; then the verdict's line is printed, or one of the texts is refused, and the
+-- fault explained if that is requested
+pub record Checks (old new : List Event) (domain problem cert : List ℕ) (explains : Bool) (status : Status) : Type 0 where
   pub domain_text : List ℕ
   pub problem_text : List ℕ
   pub cert_text : List ℕ
   pub later : List Event
   pub events : new ≡ old ++ (reads domain domain_text problem problem_text cert cert_text ++ later)
-  pub follows : Follows (IsCheckAnswer domain_text problem_text cert_text) (IsCheckRefusal domain_text problem_text cert_text) later status
+  pub follows : Follows (IsCheckAnswer domain_text problem_text cert_text) (IsCheckRefusal domain_text problem_text cert_text)
+      (IsExplained explains (files domain domain_text problem problem_text cert cert_text)) later status

@@ -7,7 +7,7 @@ use Rattle.clap.specs.Kinds.{Kinds}
 use Rattle.clap.specs.Simple.{Shape, built, built_leaf, inherited, marked_built, names_of, subcommand_of, with_leaf_noted}
 use Rattle.clap.specs.Faults.{fault_of, level_fault}
 use Rattle.clap.specs.declared.builder.value_parser.Reading.TheVariants.{AsWritten}
-use Rattle.clap.specs.declared.parser.matches.ValueSource.TheVariants.{CommandLine}
+use Rattle.clap.specs.declared.parser.matches.ValueSource.TheVariants.{CommandLine, DefaultValue}
 use Rattle.clap.proofs.OnLiterals.{clap_on_literals}
 use Rattle.optplan_words.specs.Commands.{check, check_sas, migrate_cert, optimal, program, translate, validate}
 use Rattle.optplan_words.proofs.PlainArguments.{ArePlain, placing, placing_fault, plain_fault, plain_rows}
@@ -20,6 +20,10 @@ pub record IsRequest (words : List Text) (name : Text) (rows : List Row) : Type 
 -- the match of an operand
 abbrev pub row : Text → Text → Row
 row name word = record { id = name; values = word ∷ []; count = None; source = Some CommandLine; reading = AsWritten }
+
+-- the match of `--explain`, which such arguments leave out
+abbrev pub unexplained : Row
+unexplained = record { id = codes "explain"; values = codes "false" ∷ []; count = None; source = Some DefaultValue; reading = AsWritten }
 
 -- a command of the program, built
 abbrev leaf : Shape → Shape
@@ -37,7 +41,7 @@ module _ (s : Shape) (words : List Text) (plain : ArePlain words) where
   same_rows = ap (λ rows. Some (s.name, rows)) (plain_rows (leaf s).rules words plain)
 
 pub validate_request : (path domain problem plan : Text) → ArePlain (domain ∷ problem ∷ plan ∷ [])
-    → IsRequest (path ∷ codes "validate" ∷ domain ∷ problem ∷ plan ∷ []) (codes "validate") (row (codes "DOMAIN") domain ∷ row (codes "PROBLEM") problem ∷ row (codes "PLAN") plan ∷ [])
+    → IsRequest (path ∷ codes "validate" ∷ domain ∷ problem ∷ plan ∷ []) (codes "validate") (row (codes "DOMAIN") domain ∷ row (codes "PROBLEM") problem ∷ row (codes "PLAN") plan ∷ unexplained ∷ [])
 unfolding clap_on_literals
 validate_request path domain problem plan plain = record {
   fits = same_fault validate (domain ∷ problem ∷ plan ∷ []) plain;
@@ -45,7 +49,7 @@ validate_request path domain problem plan plain = record {
 }
 
 pub check_request : (path domain problem cert : Text) → ArePlain (domain ∷ problem ∷ cert ∷ [])
-    → IsRequest (path ∷ codes "check" ∷ domain ∷ problem ∷ cert ∷ []) (codes "check") (row (codes "DOMAIN") domain ∷ row (codes "PROBLEM") problem ∷ row (codes "CERT") cert ∷ [])
+    → IsRequest (path ∷ codes "check" ∷ domain ∷ problem ∷ cert ∷ []) (codes "check") (row (codes "DOMAIN") domain ∷ row (codes "PROBLEM") problem ∷ row (codes "CERT") cert ∷ unexplained ∷ [])
 unfolding clap_on_literals
 check_request path domain problem cert plain = record {
   fits = same_fault check (domain ∷ problem ∷ cert ∷ []) plain;
@@ -53,7 +57,7 @@ check_request path domain problem cert plain = record {
 }
 
 pub check_sas_request : (path sas cert : Text) → ArePlain (sas ∷ cert ∷ [])
-    → IsRequest (path ∷ codes "check-sas" ∷ sas ∷ cert ∷ []) (codes "check-sas") (row (codes "SAS") sas ∷ row (codes "CERT") cert ∷ [])
+    → IsRequest (path ∷ codes "check-sas" ∷ sas ∷ cert ∷ []) (codes "check-sas") (row (codes "SAS") sas ∷ row (codes "CERT") cert ∷ unexplained ∷ [])
 unfolding clap_on_literals
 check_sas_request path sas cert plain = record {
   fits = same_fault check_sas (sas ∷ cert ∷ []) plain;
@@ -61,7 +65,7 @@ check_sas_request path sas cert plain = record {
 }
 
 pub optimal_request : (path domain problem plan cert : Text) → ArePlain (domain ∷ problem ∷ plan ∷ cert ∷ [])
-    → IsRequest (path ∷ codes "optimal" ∷ domain ∷ problem ∷ plan ∷ cert ∷ []) (codes "optimal") (row (codes "DOMAIN") domain ∷ row (codes "PROBLEM") problem ∷ row (codes "PLAN") plan ∷ row (codes "CERT") cert ∷ [])
+    → IsRequest (path ∷ codes "optimal" ∷ domain ∷ problem ∷ plan ∷ cert ∷ []) (codes "optimal") (row (codes "DOMAIN") domain ∷ row (codes "PROBLEM") problem ∷ row (codes "PLAN") plan ∷ row (codes "CERT") cert ∷ unexplained ∷ [])
 unfolding clap_on_literals
 optimal_request path domain problem plan cert plain = record {
   fits = same_fault optimal (domain ∷ problem ∷ plan ∷ cert ∷ []) plain;
@@ -69,7 +73,7 @@ optimal_request path domain problem plan cert plain = record {
 }
 
 pub translate_request : (path domain problem : Text) → ArePlain (domain ∷ problem ∷ [])
-    → IsRequest (path ∷ codes "translate" ∷ domain ∷ problem ∷ []) (codes "translate") (row (codes "DOMAIN") domain ∷ row (codes "PROBLEM") problem ∷ [])
+    → IsRequest (path ∷ codes "translate" ∷ domain ∷ problem ∷ []) (codes "translate") (row (codes "DOMAIN") domain ∷ row (codes "PROBLEM") problem ∷ unexplained ∷ [])
 unfolding clap_on_literals
 translate_request path domain problem plain = record {
   fits = same_fault translate (domain ∷ problem ∷ []) plain;
@@ -77,7 +81,7 @@ translate_request path domain problem plain = record {
 }
 
 pub migrate_cert_request : (path cert : Text) → ArePlain (cert ∷ [])
-    → IsRequest (path ∷ codes "migrate-cert" ∷ cert ∷ []) (codes "migrate-cert") (row (codes "CERT") cert ∷ [])
+    → IsRequest (path ∷ codes "migrate-cert" ∷ cert ∷ []) (codes "migrate-cert") (row (codes "CERT") cert ∷ unexplained ∷ [])
 unfolding clap_on_literals
 migrate_cert_request path cert plain = record {
   fits = same_fault migrate_cert (cert ∷ []) plain;

@@ -25,6 +25,10 @@ option_or name value = record (option name) { defaults = value ∷ [] }
 abbrev pub flag : Text → Rule
 flag name = record (new_rule name) { long = Some name; action = Some SetTrue }
 
+-- the option of every command by which the fault of a text is explained
+abbrev pub explain : Rule
+explain = flag (codes "explain")
+
 abbrev pub schedule_options : List Rule
 schedule_options = option (codes "simulate") ∷ option_or (codes "workers") (codes "4") ∷ option_or (codes "ring") (codes "64") ∷ []
 
@@ -35,7 +39,7 @@ abbrev pub ending_options : List Rule
 ending_options = option (codes "limit") ∷ option (codes "time") ∷ option (codes "memory") ∷ option_or (codes "steps") (codes "1000000") ∷ []
 
 abbrev pub output_options : List Rule
-output_options = flag (codes "progress") ∷ option (codes "plan") ∷ option (codes "cert") ∷ []
+output_options = flag (codes "progress") ∷ option (codes "plan") ∷ option (codes "cert") ∷ explain ∷ []
 
 -- the options of the commands that solve a task
 abbrev pub options : List Rule
@@ -48,22 +52,22 @@ abbrev pub command : Text → List Rule → Shape
 command name rules = record (new_shape name) { rules = rules }
 
 abbrev pub validate : Shape
-validate = command (codes "validate") (operand (codes "DOMAIN") ∷ operand (codes "PROBLEM") ∷ operand (codes "PLAN") ∷ [])
+validate = command (codes "validate") (operand (codes "DOMAIN") ∷ operand (codes "PROBLEM") ∷ operand (codes "PLAN") ∷ explain ∷ [])
 
 abbrev pub check : Shape
-check = command (codes "check") (operand (codes "DOMAIN") ∷ operand (codes "PROBLEM") ∷ operand (codes "CERT") ∷ [])
+check = command (codes "check") (operand (codes "DOMAIN") ∷ operand (codes "PROBLEM") ∷ operand (codes "CERT") ∷ explain ∷ [])
 
 abbrev pub check_sas : Shape
-check_sas = command (codes "check-sas") (operand (codes "SAS") ∷ operand (codes "CERT") ∷ [])
+check_sas = command (codes "check-sas") (operand (codes "SAS") ∷ operand (codes "CERT") ∷ explain ∷ [])
 
 abbrev pub optimal : Shape
-optimal = command (codes "optimal") (operand (codes "DOMAIN") ∷ operand (codes "PROBLEM") ∷ operand (codes "PLAN") ∷ operand (codes "CERT") ∷ [])
+optimal = command (codes "optimal") (operand (codes "DOMAIN") ∷ operand (codes "PROBLEM") ∷ operand (codes "PLAN") ∷ operand (codes "CERT") ∷ explain ∷ [])
 
 abbrev pub translate : Shape
-translate = command (codes "translate") (operand (codes "DOMAIN") ∷ operand (codes "PROBLEM") ∷ [])
+translate = command (codes "translate") (operand (codes "DOMAIN") ∷ operand (codes "PROBLEM") ∷ explain ∷ [])
 
 abbrev pub migrate_cert : Shape
-migrate_cert = command (codes "migrate-cert") (operand (codes "CERT") ∷ [])
+migrate_cert = command (codes "migrate-cert") (operand (codes "CERT") ∷ explain ∷ [])
 
 -- the command that solves a planning task, under this name
 abbrev pub solve : Text → Shape

@@ -52,6 +52,17 @@ pub(crate) fn flag<'a>(alloc: Global, name: &'a str, help: &'a str) -> Arg<'a>
         .help(help)
 }
 
+/// Creates the option `--explain`, which every command has.
+pub(crate) fn explain<'a>(alloc: Global) -> Arg<'a>
+    ensures { IsArg spec.explain result }
+{
+    flag(
+        alloc,
+        "explain",
+        "Explains the fault of a text on standard error: the line and column, what is wrong there, and that line",
+    )
+}
+
 /// Adds an operand or option to the command; subcommands do not inherit it.
 pub(crate) fn with_arg<'a>(command: Command<'a>, arg: Arg<'a>) -> Result<Command<'a>, AllocError>
     requires { arg.global ≡ false }

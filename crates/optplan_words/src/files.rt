@@ -4,7 +4,7 @@ ghost use Rattle.std.specs.Prelude.{◌≡◌, IfOk};
 ghost use Rattle.optplan_words.specs.Commands as spec;
 ghost use Rattle.optplan_words.specs.Commands.{IsCommand};
 
-use crate::arguments::{file, with_arg};
+use crate::arguments::{explain, file, with_arg};
 use clap::Command;
 use std::alloc::{AllocError, Global};
 
@@ -21,7 +21,8 @@ one (name arguments) a step, as VAL does, and prints one line:
   goal open LITERAL           every step applies, and LITERAL of the goal does not hold at the end (status 3)
 
 Steps count from 1. With the metric minimize (total-cost) an action costs the sum of its increases of the total cost,
-without it each action costs 1. A text that cannot be read is refused with one line on standard error (status 1).";
+without it each action costs 1. A text that cannot be read is refused with one line on standard error (status 1).
+With --explain lines follow that show the line of the fault, and say what is wrong there.";
 
 const CHECK_SAS_ABOUT: &str =
     "Checks that a certificate proves its bound on the cost of every plan";
@@ -37,7 +38,8 @@ effects) and a certificate for it, and prints one line:
   rejected CLAUSE PLACE       the certificate fails in this clause, C0 or C3 to C8, at this place (status 3)
 
 Variables, columns, tables, states and operators count from 0. A text that cannot be read is refused with one line on
-standard error (status 1).";
+standard error (status 1).
+With --explain lines follow that show the line of the fault, and say what is wrong there.";
 
 const CHECK_ABOUT: &str =
     "Checks that a certificate proves its bound on the cost of every valid plan";
@@ -53,7 +55,8 @@ for them, and prints one line:
   rejected CLAUSE PLACE       the certificate fails in this clause, C0 to C8, at this place (status 3)
 
 Variables, columns, tables, states and operators count from 0. A text that cannot be read is refused with one line on
-standard error (status 1).";
+standard error (status 1).
+With --explain lines follow that show the line of the fault, and say what is wrong there.";
 
 const OPTIMAL_ABOUT: &str =
     "Validates a plan, and checks that a certificate proves that no valid plan is cheaper";
@@ -80,7 +83,8 @@ consists of the line unsolvable claims that there is no valid plan. Then the lin
 The plan may be as other tools write it: after a first line, limit N, with time stamps that ascend, 0.0: (go a b), and
 durations, [1.0].
 
-A text that cannot be read is refused with one line on standard error (status 1).";
+A text that cannot be read is refused with one line on standard error (status 1).
+With --explain lines follow that show the line of the fault, and say what is wrong there.";
 
 const TRANSLATE_ABOUT: &str =
     "Translates a planning task to a finite-domain task with the same plans";
@@ -90,7 +94,8 @@ const TRANSLATE_LONG: &str =
 
 Reads a domain and a problem in PDDL 2.1 level 1 with types, negative preconditions and action costs, and prints the
 task as output.sas, version 3, as Fast Downward's search reads it (status 0). A text that cannot be read is refused with
-one line on standard error (status 1).";
+one line on standard error (status 1).
+With --explain lines follow that show the line of the fault, and say what is wrong there.";
 
 const MIGRATE_CERT_ABOUT: &str = "Converts a certificate of version 1 to version 2";
 
@@ -99,7 +104,8 @@ const MIGRATE_CERT_LONG: &str =
 
 Reads a certificate, and prints the same certificate, one of version 1 as version 2 (status 0): only the first line differs,
 and the verdict of check and check-sas is the same. Certificates of versions 2 and 3 stay as they are. A text that cannot be
-read is refused with one line on standard error (status 1).";
+read is refused with one line on standard error (status 1).
+With --explain lines follow that show the line of the fault, and say what is wrong there.";
 
 /// Returns the command `validate`.
 pub(crate) fn validate_command<'a>(alloc: Global) -> Result<Command<'a>, AllocError>
@@ -110,7 +116,8 @@ pub(crate) fn validate_command<'a>(alloc: Global) -> Result<Command<'a>, AllocEr
         .long_about(VALIDATE_LONG);
     let command = with_arg(command, file(alloc, "DOMAIN", "The domain's file"))?;
     let command = with_arg(command, file(alloc, "PROBLEM", "The problem's file"))?;
-    with_arg(command, file(alloc, "PLAN", "The plan's file"))
+    let command = with_arg(command, file(alloc, "PLAN", "The plan's file"))?;
+    with_arg(command, explain(alloc))
 }
 
 /// Returns the command `check`.
@@ -122,7 +129,8 @@ pub(crate) fn check_command<'a>(alloc: Global) -> Result<Command<'a>, AllocError
         .long_about(CHECK_LONG);
     let command = with_arg(command, file(alloc, "DOMAIN", "The domain's file"))?;
     let command = with_arg(command, file(alloc, "PROBLEM", "The problem's file"))?;
-    with_arg(command, file(alloc, "CERT", "The certificate's file"))
+    let command = with_arg(command, file(alloc, "CERT", "The certificate's file"))?;
+    with_arg(command, explain(alloc))
 }
 
 /// Returns the command `check-sas`.
@@ -133,7 +141,8 @@ pub(crate) fn check_sas_command<'a>(alloc: Global) -> Result<Command<'a>, AllocE
         .about(CHECK_SAS_ABOUT)
         .long_about(CHECK_SAS_LONG);
     let command = with_arg(command, file(alloc, "SAS", "The task's file"))?;
-    with_arg(command, file(alloc, "CERT", "The certificate's file"))
+    let command = with_arg(command, file(alloc, "CERT", "The certificate's file"))?;
+    with_arg(command, explain(alloc))
 }
 
 /// Returns the command `optimal`.
@@ -146,7 +155,8 @@ pub(crate) fn optimal_command<'a>(alloc: Global) -> Result<Command<'a>, AllocErr
     let command = with_arg(command, file(alloc, "DOMAIN", "The domain's file"))?;
     let command = with_arg(command, file(alloc, "PROBLEM", "The problem's file"))?;
     let command = with_arg(command, file(alloc, "PLAN", "The plan's file"))?;
-    with_arg(command, file(alloc, "CERT", "The certificate's file"))
+    let command = with_arg(command, file(alloc, "CERT", "The certificate's file"))?;
+    with_arg(command, explain(alloc))
 }
 
 /// Returns the command `translate`.
@@ -157,7 +167,8 @@ pub(crate) fn translate_command<'a>(alloc: Global) -> Result<Command<'a>, AllocE
         .about(TRANSLATE_ABOUT)
         .long_about(TRANSLATE_LONG);
     let command = with_arg(command, file(alloc, "DOMAIN", "The domain's file"))?;
-    with_arg(command, file(alloc, "PROBLEM", "The problem's file"))
+    let command = with_arg(command, file(alloc, "PROBLEM", "The problem's file"))?;
+    with_arg(command, explain(alloc))
 }
 
 /// Returns the command `migrate-cert`.
@@ -167,5 +178,6 @@ pub(crate) fn migrate_cert_command<'a>(alloc: Global) -> Result<Command<'a>, All
     let command = Command::new(alloc, "migrate-cert")
         .about(MIGRATE_CERT_ABOUT)
         .long_about(MIGRATE_CERT_LONG);
-    with_arg(command, file(alloc, "CERT", "The certificate's file"))
+    let command = with_arg(command, file(alloc, "CERT", "The certificate's file"))?;
+    with_arg(command, explain(alloc))
 }

@@ -4,7 +4,7 @@ ghost use Rattle.std.specs.Prelude.{◌≡◌, IfOk};
 ghost use Rattle.optplan_words.specs.Commands as spec;
 ghost use Rattle.optplan_words.specs.Commands.{IsCommand, AddsRules};
 
-use crate::arguments::{file, flag, option, option_or, with_arg};
+use crate::arguments::{explain, file, flag, option, option_or, with_arg};
 use clap::Command;
 use std::alloc::{AllocError, Global};
 
@@ -46,7 +46,8 @@ not expand states again and again, as deep does. With --simulate the default is 
 
 With the metric minimize (total-cost) an action costs the sum of its increases of the total cost, without it each action
 costs 1. The command check checks the certificate that --cert writes. A text that cannot be read is refused with one line
-on standard error, and so is a task that is too large (status 1).";
+on standard error, and so is a task that is too large (status 1). With --explain lines follow that show the line of the
+fault, and say what is wrong there.";
 
 const SOLVE_SAS_ABOUT: &str =
     "Finds a cheapest plan of a finite-domain task, or that there is none";
@@ -87,7 +88,8 @@ many states have the f-value of a cheapest plan it needs fewer expansions than s
 not expand states again and again, as deep does. With --simulate the default is shallow.
 
 The command check-sas checks the certificate that --cert writes. A text that cannot be read is refused with one line on
-standard error, and so is a task that is too large (status 1).";
+standard error, and so is a task that is too large (status 1). With --explain lines follow that show the line of the
+fault, and say what is wrong there.";
 
 /// Adds the options that limit the search.
 fn with_ending_options<'a>(alloc: Global, command: Command<'a>) -> Result<Command<'a>, AllocError>
@@ -205,7 +207,8 @@ fn with_output_options<'a>(alloc: Global, command: Command<'a>) -> Result<Comman
     );
     let command = with_arg(command, progress)?;
     let command = with_arg(command, plan)?;
-    with_arg(command, cert)
+    let command = with_arg(command, cert)?;
+    with_arg(command, explain(alloc))
 }
 
 /// Adds the options of the commands that solve a task.

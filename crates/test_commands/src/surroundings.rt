@@ -282,6 +282,131 @@ fn one_call_fails(rt: HostRuntime) -> Result<(), Fail> {
     Ok(())
 }
 
+/// Commands that explain the fault of a text: their calls are the reads, the fault's line and its explanation. If the
+/// line fails, the explanation is not written.
+const EXPLAINED_ROWS: &[FaultRow] = &[
+    (&["check-sas", "s", "s", "--explain"], "", 2, ("", "", 1)),
+    (
+        &["check-sas", "s", "s", "--explain"],
+        "",
+        3,
+        ("", "optplan: F50 Header cert\n", 1),
+    ),
+    (
+        &["check-sas", "s", "s", "--explain"],
+        "",
+        4,
+        (
+            "",
+            "optplan: F50 Header cert\ns:1: this is not the first line of a certificate of a known version\nbegin_version\n",
+            1,
+        ),
+    ),
+    (&["migrate-cert", "--explain", "s"], "", 1, ("", "", 1)),
+    (
+        &["migrate-cert", "--explain", "s"],
+        "",
+        2,
+        ("", "optplan: F50 Header cert\n", 1),
+    ),
+    (
+        &["migrate-cert", "--explain", "s"],
+        "",
+        3,
+        (
+            "",
+            "optplan: F50 Header cert\ns:1: this is not the first line of a certificate of a known version\nbegin_version\n",
+            1,
+        ),
+    ),
+    (
+        &["translate", "d", "d", "--explain"],
+        "",
+        3,
+        ("", "optplan: F10 Shape problem 0\n", 1),
+    ),
+    (
+        &["translate", "d", "d", "--explain"],
+        "",
+        4,
+        (
+            "",
+            "optplan: F10 Shape problem 0\nd:1:1: this problem lacks a part: its `:goal` may be missing or misspelt\n(define (domain road)\n^\n",
+            1,
+        ),
+    ),
+    (&["solve", "d", "d", "--explain"], "", 2, ("", "", 1)),
+    (
+        &["solve", "d", "d", "--explain"],
+        "",
+        4,
+        (
+            "",
+            "optplan: F10 Shape problem 0\nd:1:1: this problem lacks a part: its `:goal` may be missing or misspelt\n(define (domain road)\n^\n",
+            1,
+        ),
+    ),
+    (
+        &["validate", "d", "p", "l", "--explain"],
+        "(go a b)\n()",
+        3,
+        ("", "", 1),
+    ),
+    (
+        &["validate", "d", "p", "l", "--explain"],
+        "(go a b)\n()",
+        4,
+        ("", "optplan: F25 PlanShape plan 9\n", 1),
+    ),
+    (
+        &["validate", "d", "p", "l", "--explain"],
+        "(go a b)\n()",
+        5,
+        (
+            "",
+            "optplan: F25 PlanShape plan 9\nl:2:1: this list is no step: a step is a name and its arguments, without lists\n()\n^\n",
+            1,
+        ),
+    ),
+    // The plan is shown as it is in its file.
+    (
+        &["optimal", "d", "p", "l", "q", "--explain"],
+        "1: (go a b)\n2: (go (b) c)",
+        6,
+        (
+            "",
+            "optplan: F25 PlanShape plan 19\nl:2:8: this list is no step: a step is a name and its arguments, without lists\n2: (go (b) c)\n       ^\n",
+            1,
+        ),
+    ),
+    // A file that cannot be read is not explained, and an answer stays as it is.
+    (
+        &["check", "d", "p", "q", "--explain"],
+        "",
+        2,
+        ("", "optplan: F70 CannotRead cert\n", 7),
+    ),
+    (
+        &["check", "d", "p", "q", "--explain"],
+        "",
+        4,
+        ("accepted 2\n", "", 0),
+    ),
+];
+
+#[test]
+fn one_call_of_an_explanation_fails(rt: HostRuntime) -> Result<(), Fail> {
+    for (words, plan, calls_before, texts) in EXPLAINED_ROWS {
+        let outcome = run_with_fault(&rt, words, plan, *calls_before, DeviceFault::Failed)?;
+        assert_eq!(rt;
+            outcome,
+            wanted(rt.alloc(), *texts)?,
+            "at {words:?} {plan} {calls_before}"
+        );
+    }
+    Ok(())
+}
+
 const MEMORY_ROWS: &[FaultRow] = &[
     (VALIDATE, PLAN, 0, ("", "optplan: out of memory\n", 6)),
     (VALIDATE, PLAN, 1, ("", "optplan: out of memory\n", 6)),

@@ -1,10 +1,12 @@
-use Rattle.std.proofs.Common.{◌∙◌, ap, sym, subst, inl, inr, ⊎_elim}
+use Rattle.std.proofs.Common.{◌≡◌, ◌∙◌, ap, sym, subst, inl, inr, ⊎_elim}
+use Rattle.std.specs.Prelude.{codes}
 use Rattle.clap.specs.Matches.{found_of}
 use Rattle.clap.specs.Walk.{rows_of}
 use Rattle.clap.specs.declared.parser.matches.ArgMatches.TheViews.{out-ArgMatches}
 use Rattle.optplan_command.specs.SolveWords.{HasRefusedValue}
 use Rattle.optplan_command.specs.SolvingCommands.{Solved}
-use Rattle.optplan_command.specs.FileCommands.{IsNamed}
+use Rattle.optplan_command.specs.FileCommands.{IsNamed, DoesCommand}
+use Rattle.optplan_command.specs.Options.{is_set}
 use Rattle.optplan_command.specs.Requests.{value_in}
 use Rattle.optplan_command.proofs.Refusals.{if_ok, if_err}
 use Rattle.optplan_command.proofs.Requests.{values_found, same_request, does_solved, does_files, refused_solving}
@@ -48,4 +50,6 @@ returns-in-Some-file_command-clause-done g c = λ h name rows is asked same know
     let command = c.in-Some-file_command.command in
     let named = subst (λ n. IsNamed n (value_in rows) command) request.0
     (subst (λ value. IsNamed b.name.now value command) values c.in-Some-file_command.ensures.some) in
-    (done.0, done.1, does_files name (value_in rows) h done.0 c.run_files.result command named done.2)
+    let set : c.is_set-explains.result ≡ is_set (value_in rows) (codes "explain") = c.is_set-explains.ensures ∙ ap (λ value. is_set value (codes "explain")) values in
+    let does = subst (λ explains. DoesCommand h done.0 command explains c.run_files.result) set done.2 in
+    (done.0, done.1, does_files name (value_in rows) h done.0 c.run_files.result command named does)

@@ -1,8 +1,9 @@
 use Rattle.std.proofs.Common.{◌≡◌, ◌≢◌, ◌≤◌, ◌+◌, ◌++◌, ◌∷◌, [], ◌∙◌, ap, arith, append_assoc}
 use Rattle.std.specs.Option.{option_map}
 use Rattle.optplan_device.specs.Events.{HasRead}
+use Rattle.optplan_explain.specs.Explanations.{IsExplained}
 use Rattle.optplan_replies.specs.declared.status.Status.TheVariants.{DeviceFailed}
-use Rattle.optplan_command.specs.Migrating.{IsMigrated, IsMigrationRefusal}
+use Rattle.optplan_command.specs.Migrating.{files, IsMigrated, IsMigrationRefusal}
 use Rattle.optplan_command.proofs.Translations.{text_replied, text_reply_failed}
 use Rattle.optplan_command.proofs.Migrations.{migration_refusal_status}
 use Rattle.optplan_replies.proofs.Unput.{unput_then}
@@ -22,8 +23,8 @@ returns-in-Ok-clause-done g c = λ h is same known.
     let reading = HasRead c.args.cert.now t ∷ [] in
     let before = c.in-Ok.ensures.told ∙ ap (option_map (λ events. events ++ reading)) is in
     let told = h ++ reading in
-    let after = text_replied (IsMigrated t) (IsMigrationRefusal t) answer (g.D.Device.history c.read_file.new.device) (g.D.Device.history c.reply_text.new.device) told status
-    before c.migrated-answer.ensures.text c.migrated-answer.ensures.refused
+    let after = text_replied (IsMigrated t) (IsMigrationRefusal t) (IsExplained c.args.explains (files c.args.cert.now t)) answer (g.D.Device.history c.read_file.new.device) (g.D.Device.history c.reply_text.new.device) told status
+    before c.migrated-answer.ensures.text c.migrated-answer.ensures.refused c.migrated-answer.ensures.explained
     (c.reply_text.ensures.answered known well) (c.reply_text.ensures.status known well) (c.reply_text.ensures.refused told before) (c.reply_text.ensures.refusal known) in (
       told ++ after.0,
       after.1,

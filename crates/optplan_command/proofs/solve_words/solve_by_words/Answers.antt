@@ -18,7 +18,7 @@ returns-in-Solve-clause-done g c = rw c.in-Solve.is (λ h is same known.
       record {
         settings = settings;
         asked = c.in-Ok.ensures.taken;
-        solves = renamed_solves h done.0 _ c.unwrap_or-domain.result.now _ c.unwrap_or-problem.result.now settings.options settings.schedule (files_of settings) c.run_solve.result d p done.2;
+        solves = renamed_solves h done.0 _ c.unwrap_or-domain.result.now _ c.unwrap_or-problem.result.now settings.options settings.schedule (files_of settings) settings.explains c.run_solve.result d p done.2;
       },
     ))
 
@@ -33,6 +33,6 @@ returns-in-SolveSas-clause-done g c = rw c.in-SolveSas.is (λ h is same known.
       record {
         settings = settings;
         asked = c.in-Ok.ensures.taken;
-        solves = renamed_solves_sas h done.0 _ c.unwrap_or-sas.result.now settings.options settings.schedule (files_of settings) c.run_solve_sas.result s done.2;
+        solves = renamed_solves_sas h done.0 _ c.unwrap_or-sas.result.now settings.options settings.schedule (files_of settings) settings.explains c.run_solve_sas.result s done.2;
       },
     ))

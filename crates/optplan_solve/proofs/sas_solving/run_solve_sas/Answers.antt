@@ -6,13 +6,13 @@ use Rattle.optplan_solve.proofs.sas_solving.run_solve_sas.Goals as goal
 
 pub returns-in-Ok-clause-done : goal.returns-in-Ok-clause-done
 returns-in-Ok-clause-done g c = λ h is same known.
-    let read = HasRead c.args.sas.now c.in-Ok.sas.items in
+    let read = HasRead c.args.sas.now c.in-Ok.text.items in
     let before = added (g.D.Device.history c.args.device.now) (g.D.Device.history c.read_file.new.device) h read is c.in-Ok.ensures.told in
     let after = c.solve_text.ensures.done (h ++ read ∷ []) before (same ∙ sym c.in-Ok.ensures.same) known in (
       (h ++ read ∷ []) ++ after.0,
       after.1,
       record {
-        sas_text = c.in-Ok.sas.items;
+        sas_text = c.in-Ok.text.items;
         later = after.0;
         events = append_assoc h (read ∷ []) after.0;
         follows = after.2;

@@ -5,7 +5,7 @@ use Rattle.optplan_solve.proofs.solving.run_solve.Goals as goal
 
 pub returns-in-Ok-clause-done : goal.returns-in-Ok-clause-done
 returns-in-Ok-clause-done g c = λ h is same known.
-    let d = c.in-Ok.domain.items in let p = c.in-Ok.problem.items in
+    let d = c.in-Ok.domain_text.items in let p = c.in-Ok.problem_text.items in
     let reads = task_reads c.args.domain.now d c.args.problem.now p in
     let after = c.solve_texts.ensures.done (h ++ reads) (c.in-Ok.ensures.told h is) (same ∙ sym c.in-Ok.ensures.same) known in (
       (h ++ reads) ++ after.0,

@@ -15,6 +15,6 @@ mod spot;
 mod tokens;
 mod wording;
 
-pub use explain::explanation;
+pub use explain::{explanation, refusal_with};
 pub use place::{Place, place_of};
 pub use source::{Source, Sources};

@@ -1,7 +1,9 @@
 //! Explanations of faults.
 
-ghost use Rattle.std.specs.Prelude.{IfOk, option_map, string_bytes};
-ghost use Rattle.optplan_explain.specs.Explanations.{IsExplanation};
+ghost use Rattle.std.specs.Prelude.{◌≡◌, ◌⊎◌, IfOk, option_map, string_bytes};
+ghost use Rattle.optplan_replies.specs.declared.fault.Fault.TheVariants.{OutOfMemory};
+ghost use Rattle.optplan_explain.specs.Explanations.{IsExplanation, IsExplained};
+ghost use Rattle.optplan_explain.specs.Files.{files_of};
 
 use crate::faults::{file_word, source_of, spot_of};
 use crate::layout::at_spot;
@@ -9,7 +11,7 @@ use crate::nearest::nearest_in;
 use crate::sentence::sentence_of;
 use crate::source::Sources;
 use crate::tokens::name_at;
-use optplan_replies::Fault;
+use optplan_replies::{Fault, Refusal};
 use pddl::PddlFault;
 use pddl_syntax::{Fault as TextFault, FaultKind, PlanningFile};
 use std::alloc::{AllocError, Global};
@@ -67,7 +69,7 @@ pub fn explanation(
     fault: &Fault,
     sources: &Sources<'_>,
 ) -> Result<Option<String>, AllocError>
-    ensures { IfOk result (λ e. IsExplanation fault.now sources.now (option_map string_bytes e)) }
+    ensures { IfOk result (λ e. IsExplanation fault.now (files_of sources.now) (option_map string_bytes e)) }
 {
     let Some((file, spot)) = spot_of(fault) else {
         return Ok(None);
@@ -79,4 +81,20 @@ pub fn explanation(
     let nearest = nearest_of(alloc, fault, sources)?;
     let text = at_spot(alloc, source, spot, sentence.as_str(), nearest)?;
     Ok(Some(text))
+}
+
+/// Returns the refusal with this fault, and with its explanation if that is requested. If there is no memory for the
+/// explanation, it is the refusal for `OutOfMemory`, as `report` reports if there is none for the fault's line.
+#[tactic(auto, using(crate::proofs::Explained::choosing))]
+pub fn refusal_with(alloc: Global, fault: Fault, explains: bool, sources: &Sources<'_>) -> Refusal
+    ensures fault { (result.fault ≡ fault) ⊎ (result.fault ≡ OutOfMemory) }
+    ensures explained { IsExplained explains (files_of sources.now) result.fault (option_map string_bytes result.explanation) }
+{
+    if !explains {
+        return Refusal::from(fault);
+    }
+    match explanation(alloc, &fault, sources) {
+        Ok(explanation) => Refusal { fault, explanation },
+        Err(_) => Refusal::from(Fault::OutOfMemory),
+    }
 }
