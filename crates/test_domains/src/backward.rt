@@ -3,7 +3,9 @@ ghost use Rattle.std.specs.Prelude.{◌≡◌, ℕ, ◌<◌, ◌^◌, slice_inde
 use crate::domains::{X, Y, abstraction, rows, worked};
 use abstraction::Abstraction;
 use abstraction_domain::{ClassRow, DomainAbstraction};
-use abstraction_groups::{BackwardTransitions, Groups, Listed, OperatorIndex, Transition};
+use abstraction_groups::{
+    BackwardAbstraction, BackwardTransitions, Groups, Listed, OperatorIndex, Transition,
+};
 use cert_value::Values;
 use fdr::FdrTask;
 use pdb::{distances, saturate};
@@ -71,15 +73,15 @@ fn are_distances(rt: &impl Abort, values: &Values, expected: &[u64]) {
 
 /// Checks the distances and the saturated shares under the shares of the three operators.
 #[tactic(auto, using(pdb::proofs::Falls::distances_are_consistent))]
-fn has_distances(
+fn has_distances<A: BackwardAbstraction>(
     rt: &impl Abort,
     alloc: Global,
     task: &FdrTask,
-    backward: &Listed<'_, DomainAbstraction<'_>>,
+    backward: &A,
     expected: &[u64],
     saturated: &[u32],
 )
-    requires { backward.now.task ≡ task.now }
+    requires { A.task backward.now ≡ task.now }
 {
     assert!(rt; SHARES.len() == task.operator_count() && are_small(SHARES));
     let values = distances(alloc, backward, SHARES).expect(rt, "memory");
